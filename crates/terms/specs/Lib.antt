@@ -1,0 +1,5 @@
+pub mod Answers
+pub mod Lists
+pub mod Values
+pub mod Primitives
+pub mod Domains
