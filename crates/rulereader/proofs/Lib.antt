@@ -1,0 +1,4 @@
+pub mod Ahead
+pub mod RuleParts
+pub mod Tails
+pub mod FileParts
