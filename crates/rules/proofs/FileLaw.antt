@@ -48,10 +48,10 @@ bytes-after (suc n) [] v = tt
 bytes-after (suc n) (b ∷ s) v = bytes-after n s (v .1)
 
 pub accepted-exactly : (s : List ℕ) → Bytes s → Accepted-exactly s
-accepted-exactly s bs b = (to, from)
+accepted-exactly s bs = record { exactly = λ b. (to b, from b) }
   where
-    to : file s ≡ Ok b → Valid b × (length s ≤ 4096) × (s ≡ file-bytes b)
-    to e =
+    to : (b : Book) → file s ≡ Ok b → Valid b × (length s ≤ 4096) × (s ≡ file-bytes b)
+    to b e =
         branch (ltb 4096 (length s)) e (λ _ x. absurd (not-ok _ b x)) (λ t x.
         branch (begins mark s) x (λ u y.
         whole-is (book 4 (drop 4 s)) b y (λ k q.
@@ -59,8 +59,8 @@ accepted-exactly s bs b = (to, from)
         (r .1, ltb-false 4096 (length s) t, begins-with mark s u ∙ ap (λ z. mark ++ z) (r .0 ∙ append-nil _))))
         (λ _ y. absurd (not-ok _ b y)))
 
-    from : Valid b × (length s ≤ 4096) × (s ≡ file-bytes b) → file s ≡ Ok b
-    from v =
+    from : (b : Book) → Valid b × (length s ≤ 4096) × (s ≡ file-bytes b) → file s ≡ Ok b
+    from b v =
         let t = counted number-bytes (b .arities) ++ counted rule-bytes (b .rules) in
         let w = book-codec .writes b (v .0) 4 [] in
         let l : length (file-bytes b) ≤ 4096 = subst (λ z. length z ≤ 4096) (v .2) (v .1) in

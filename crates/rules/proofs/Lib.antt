@@ -6,3 +6,4 @@ pub mod Terms
 pub mod Slots
 pub mod RuleCodecs
 pub mod FileLaw
+pub mod ValidOnce

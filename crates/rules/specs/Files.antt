@@ -37,5 +37,5 @@ Loaded view o (Ok x) = o ≡ Ok (view x)
 Loaded view o (Err e) = (o ≡ Err e) ⊎ (e ≡ NoMemory)
 
 -- a file is accepted as the rules b exactly when b is valid, the file has at most 4,096 bytes, and they are the encoding of b
-abbrev pub Accepted-exactly : List ℕ → Type 0
-Accepted-exactly s = (b : Book) → (file s ≡ Ok b) ↔ (Valid b × (length s ≤ 4096) × (s ≡ file-bytes b))
+pub record Accepted-exactly (s : List ℕ) : Type 0 where
+  pub exactly : (b : Book) → (file s ≡ Ok b) ↔ (Valid b × (length s ≤ 4096) × (s ≡ file-bytes b))
