@@ -1,0 +1,4 @@
+pub mod Buffers
+pub mod Encodings
+pub mod Fitting
+pub mod Copies

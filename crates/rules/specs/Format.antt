@@ -53,11 +53,13 @@ abbrev pub goal-bytes : Goal Term → List ℕ
 goal-bytes (tell p) = primitive-bytes p
 goal-bytes (add c ts) = number-bytes 3 ++ number-bytes c ++ each term-bytes ts
 
--- a rule: how many heads are kept and how many removed, their symbols, the guards, the number of fresh variables, the body
+-- the heads of a rule: how many are kept and how many removed, and their symbols
+abbrev pub heads-bytes : Rule → List ℕ
+heads-bytes r = number-bytes (length (r .kept)) ++ number-bytes (length (r .removed)) ++ each number-bytes (heads r)
+
+-- a rule: its heads, the guards, the number of fresh variables, the body
 abbrev pub rule-bytes : Rule → List ℕ
-rule-bytes r =
-    number-bytes (length (r .kept)) ++ number-bytes (length (r .removed)) ++ each number-bytes (heads r) ++
-    counted primitive-bytes (r .guards) ++ number-bytes (r .fresh) ++ counted goal-bytes (r .body)
+rule-bytes r = heads-bytes r ++ counted primitive-bytes (r .guards) ++ number-bytes (r .fresh) ++ counted goal-bytes (r .body)
 
 -- the four bytes that a file starts with
 abbrev pub mark : List ℕ

@@ -1,8 +1,12 @@
 // Rules as data, and the codes that a rule file is made of.
 ghost use mathlib.Core.Path.{_≡_};
+ghost use Prim.Native.Nat.{_≤_};
+ghost use lib.ListN.{length};
+ghost use Rattle.std.specs.Of.Vec.{vec-len};
 ghost use Rattle.rules.specs.Codes.{code-of, value-of};
 ghost use Rattle.rules.specs.declared.LoadRefusal.the-variants.{NoMemory};
 ghost use Rattle.rules.specs.Refusals.{refusal-number, refusal-place};
+ghost use Rattle.rules.specs.Views.{rule-of};
 use std::alloc::AllocError;
 use terms::Primitive;
 use terms::Term;
@@ -26,6 +30,24 @@ pub struct Rule {
     pub guards: Vec<Primitive<Term>>,
     pub fresh: u8,
     pub body: Vec<Item>,
+}
+
+impl Rule {
+    /// How many heads are kept.
+    pub fn kept_count(&self) -> usize
+        ensures value { λ r. ⌜ r ≡ length (rule-of (now (self .entry)) .kept) ⌝ }
+        ensures bound { λ r. ⌜ r ≤ vec-len (now (self .entry) .heads) ⌝ }
+    {
+        self.heads.len().min(self.kept as usize)
+    }
+
+    /// How many heads are removed.
+    pub fn removed_count(&self) -> usize
+        ensures value { λ r. ⌜ r ≡ length (rule-of (now (self .entry)) .removed) ⌝ }
+        ensures bound { λ r. ⌜ r ≤ vec-len (now (self .entry) .heads) ⌝ }
+    {
+        self.heads.len().saturating_sub(self.kept as usize)
+    }
 }
 
 /// Why a file was not loaded. A place is the offset at which the number at fault begins.

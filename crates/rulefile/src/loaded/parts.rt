@@ -1,6 +1,8 @@
 // How rules are made, and what they are made of.
 ghost use mathlib.Core.Path.{_≡_};
 ghost use mathlib.Core.List.{map};
+ghost use lib.ListN.{length};
+ghost use Rattle.rules.specs.Format.{file-bytes};
 ghost use Rattle.rules.specs.Valids.{Valid};
 ghost use Rattle.rules.specs.Views.{rule-of};
 ghost use Rattle.rulereader.specs.Contents.{contents-book};
@@ -11,12 +13,17 @@ use rules::Rule;
 
 impl Rules {
     /// The rules that a file holds.
-    pub(crate) fn new(contents: FileContents) -> Rules
-        requires { ⌜ Valid (contents-book contents) ⌝ }
+    pub(crate) fn new(contents: FileContents, size: usize) -> Rules
+        requires valid { ⌜ Valid (contents-book contents) ⌝ }
+        requires sized { ⌜ size ≡ length (file-bytes (contents-book contents)) ⌝ }
         ensures { λ r. ⌜ rules-book r ≡ contents-book contents ⌝ }
     {
         let FileContents { arities, rules } = contents;
-        Rules { arities, rules }
+        Rules {
+            arities,
+            rules,
+            size,
+        }
     }
 
     /// The argument count of each symbol.

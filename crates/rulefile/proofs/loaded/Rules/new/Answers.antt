@@ -1,4 +1,4 @@
 use Rattle.rulefile.proofs.loaded.Rules.new.Needs as need
 
 pub ghost-result : need.ghost-result
-ghost-result c = (∣ c .pre ∣₁, tt)
+ghost-result c = (∣ c .pre .valid ∣₁, (c .pre .sized, tt))
