@@ -1,8 +1,8 @@
 -- The encoding of a rule, from what its parts mean.
 use mathlib.Core.Path.{_≡_, refl, sym, ap, _∙_, subst}
 use mathlib.Core.List.{List, [], _∷_, _++_, map}
-use Prim.Native.Nat.{ℕ, suc, _+_, _<_}
-use lib.ListN.{length, take-append-drop}
+use Prim.Native.Nat.{ℕ, _+_, _<_}
+use lib.ListN.{length, length-map, take-append-drop}
 use Rattle.std.specs.Of.Vec.{vec-items}
 use Rattle.std.specs.declared.result.Result.{Result}
 use Rattle.terms.specs.declared.Primitive.{Primitive}
@@ -20,17 +20,13 @@ pub all-units : (xs : List ℕ) → All (λ _. Unit {0}) xs
 all-units [] = tt
 all-units (x ∷ xs) = (tt, all-units xs)
 
-pub length-mapped : {A B : Type 0} (g : A → B) (xs : List A) → length (map g xs) ≡ length xs
-length-mapped g [] = refl
-length-mapped g (x ∷ xs) = ap suc (length-mapped g xs)
-
 module _ {A B : Type 0} (f : B → List ℕ) (g : A → B) where
   each-map : (xs : List A) → each f (map g xs) ≡ each (λ x. f (g x)) xs
   each-map [] = refl
   each-map (x ∷ xs) = ap (λ t. f (g x) ++ t) (each-map xs)
 
   pub counted-map : (xs : List A) → counted (λ x. f (g x)) xs ≡ counted f (map g xs)
-  counted-map xs = ap (λ n. number-bytes n ++ each (λ x. f (g x)) xs) (sym (length-mapped g xs)) ∙ ap (λ t. number-bytes (length (map g xs)) ++ t) (sym (each-map xs))
+  counted-map xs = ap (λ n. number-bytes n ++ each (λ x. f (g x)) xs) (sym (length-map xs g)) ∙ ap (λ t. number-bytes (length (map g xs)) ++ t) (sym (each-map xs))
 
 -- the heads of a rule, by their counts and all symbols
 pub heads-bytes-are : (r : code.Rule) (k m : ℕ) (hs : List ℕ) → k ≡ length (rule-of r .kept) → m ≡ length (rule-of r .removed) → hs ≡ vec-items (r .heads) →

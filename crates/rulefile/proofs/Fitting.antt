@@ -3,7 +3,7 @@ use mathlib.Core.Path.{_≡_, refl, sym, ap, _∙_, subst}
 use mathlib.Core.List.{List, [], _∷_, map}
 use Prim.Native.Nat.{ℕ, suc, _≤_}
 use native.Mathlib.Omega.{arith}
-use lib.ListN.{length, take-append-drop}
+use lib.ListN.{length, length-map, take-append-drop}
 use Rattle.std.specs.Of.Vec.{vec-items, vec-len}
 use Rattle.terms.specs.declared.Primitive.{Primitive}
 use Rattle.terms.specs.declared.Primitive.the-variants.{Same, Least, Most}
@@ -18,7 +18,6 @@ use Rattle.rules.specs.declared.Item.{Item}
 use Rattle.rules.specs.declared.Item.the-variants.{Tell, Add}
 use Rattle.rules.specs.declared.Rule as code
 use Rattle.rulefile.specs.Fits.{Term-fits, Primitive-fits, Item-fits, Rule-fits}
-use Rattle.rulefile.proofs.Encodings.{length-mapped}
 
 all-weaker : {A B : Type 0} (f : A → B) (P : B → Type 0) (Q : A → Type 0) → ((x : A) → P (f x) → Q x) → (xs : List A) → All P (map f xs) → All Q xs
 all-weaker f P Q h [] v = tt
@@ -46,9 +45,9 @@ rule-fits arities r v = record {
   few-heads = omega (arith, v .few-heads, ap length (take-append-drop (r .kept) (vec-items (r .heads))), r .heads .ok .0);
   few-guards = omega (arith, v .few-guards, r .guards .ok .0);
   guards-fit = all-imply _ _ (primitive-fits _) (vec-items (r .guards)) (v .guards);
-  few-items = omega (arith, v .few-items, length-mapped goal-of (vec-items (r .body)), r .body .ok .0);
+  few-items = omega (arith, v .few-items, length-map (vec-items (r .body)) goal-of, r .body .ok .0);
   items-fit = all-weaker goal-of _ _ (item-fits arities _) (vec-items (r .body)) (v .body);
 }
 
 pub rules-fit : (arities : List ℕ) (rs : List code.Rule) → Valid (book-of arities rs) → (length rs ≤ 32) × All Rule-fits rs
-rules-fit arities rs v = (omega (arith, v .few-rules, length-mapped rule-of rs), all-weaker rule-of _ _ (rule-fits arities) rs (v .rules))
+rules-fit arities rs v = (omega (arith, v .few-rules, length-map rs rule-of), all-weaker rule-of _ _ (rule-fits arities) rs (v .rules))

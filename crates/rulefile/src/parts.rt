@@ -108,7 +108,7 @@ fn encode_heads(rule: &Rule, writer: &mut Writer<'_>) -> Result<(), WriteRefusal
     ensures same { λ _. ⌜ name (now (writer .exit) .dst) ≡ name (now (writer .entry) .dst) ⌝ }
     ensures wrote { λ r. ⌜ Writes (heads-bytes (rule-of (now (rule .entry)))) (now (writer .entry)) r (now (writer .exit)) ⌝ }
 {
-    writer.number(rule.kept_count() as u32)?;
-    writer.number(rule.removed_count() as u32)?;
+    writer.number(rule.kept_heads().len() as u32)?;
+    writer.number(rule.removed_heads().len() as u32)?;
     encode_each(&rule.heads, writer)
 }

@@ -10,7 +10,6 @@ mod item;
 mod production;
 mod reader;
 mod rule;
-mod signature;
 
 use item::ArityPart;
 use item::ArityProduction;
@@ -21,7 +20,7 @@ use rule::RuleProduction;
 use rules::LoadRefusal;
 use rules::MARK;
 use rules::Rule;
-use signature::Signature;
+use rules::Signature;
 use std::alloc::Global;
 
 /// What a rule file holds: the argument count of each symbol, and the rules.

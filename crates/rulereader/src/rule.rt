@@ -18,9 +18,9 @@ use crate::production::Production;
 use crate::production::list;
 use crate::production::parts;
 use crate::reader::Reader;
-use crate::signature::Signature;
 use rules::LoadRefusal;
 use rules::Rule;
+use rules::Signature;
 use std::alloc::Global;
 
 /// A rule over the symbols of a file.

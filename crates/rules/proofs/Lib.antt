@@ -4,6 +4,7 @@ pub mod Codecs
 pub mod Numbers
 pub mod Terms
 pub mod Slots
+pub mod Cuts
 pub mod RuleCodecs
 pub mod FileLaw
 pub mod ValidOnce

@@ -22,7 +22,7 @@ use Rattle.rules.proofs.Outcomes.{never, got-is, branch, inverted}
 use Rattle.rules.proofs.Codecs.{Codec, joined, renamed, chosen, sequence, made-of, many-codec}
 use Rattle.rules.proofs.Numbers.{number-codec, ranged-codec, index-codec, list-codec}
 use Rattle.rules.proofs.Terms.{term-codec, primitive-kind, primitive-rest, primitive-codec, primitive-kinds, primitive-bytes-are, guard-codec}
-use Rattle.rules.proofs.Slots.{few-slots}
+use Rattle.rules.proofs.Slots.{few-each, few-slots}
 
 -- a body item is its kind and what follows
 abbrev goal-kind : Goal Term → ℕ
@@ -176,7 +176,7 @@ module _ (arities : List ℕ) (few : length arities ≤ 32) (short : All (λ n. 
   heads-codec c v =
       sequence _ (λ hs r. counted primitive-bytes (r .guards) ++ (number-bytes (r .fresh) ++ counted goal-bytes (r .body))) (RestOf arities (c .0)) heads
       (many-codec (index-codec (length arities) (omega arith)) (c .0 + c .1))
-      (λ hs w. let n = few-slots arities short hs in rule-rest-codec (c .0) hs (omega (arith, w .0)))
+      (λ hs w. let n = few-slots arities (few-each arities short) hs in rule-rest-codec (c .0) hs (omega (arith, w .0)))
       (same-heads arities (c .0))
 
   read-valid : (r : Rule) → Heads (length (r .kept), length (r .removed)) × HeadsOf arities (length (r .kept), length (r .removed)) r → RuleValid arities r

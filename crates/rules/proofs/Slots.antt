@@ -12,9 +12,9 @@ few-each [] v c = omega arith
 few-each (a ∷ rest) v zero = v .0
 few-each (a ∷ rest) v (suc c) = few-each rest (v .1) c
 
-pub few-slots : (arities : List ℕ) → All (λ n. n ≤ 4) arities → (cs : List ℕ) → slot-count arities cs ≤ 4 * length cs
+pub few-slots : (arities : List ℕ) → ((c : ℕ) → getD arities c 0 ≤ 4) → (cs : List ℕ) → slot-count arities cs ≤ 4 * length cs
 few-slots arities v [] = omega arith
-few-slots arities v (c ∷ cs) = let a = few-each arities v c in let r = few-slots arities v cs in omega arith
+few-slots arities v (c ∷ cs) = let a = v c in let r = few-slots arities v cs in omega arith
 
 pub slot-count-push : (arities cs : List ℕ) (c : ℕ) → slot-count arities (cs ++ c ∷ []) ≡ slot-count arities cs + getD arities c 0
 slot-count-push arities [] c = omega arith

@@ -7,6 +7,10 @@ ghost use Rattle.rules.specs.Codes.{code-of, value-of};
 ghost use Rattle.rules.specs.declared.LoadRefusal.the-variants.{NoMemory};
 ghost use Rattle.rules.specs.Refusals.{refusal-number, refusal-place};
 ghost use Rattle.rules.specs.Views.{rule-of};
+
+mod signature;
+
+pub use signature::Signature;
 use std::alloc::AllocError;
 use terms::Primitive;
 use terms::Term;
@@ -33,20 +37,22 @@ pub struct Rule {
 }
 
 impl Rule {
-    /// How many heads are kept.
-    pub fn kept_count(&self) -> usize
-        ensures value { λ r. ⌜ r ≡ length (rule-of (now (self .entry)) .kept) ⌝ }
-        ensures bound { λ r. ⌜ r ≤ vec-len (now (self .entry) .heads) ⌝ }
+    /// The symbols of the kept heads.
+    pub fn kept_heads(&self) -> &[u8]
+        ensures value { λ r. ⌜ now r ≡ rule-of (now (self .entry)) .kept ⌝ }
+        ensures bound { λ r. ⌜ length (now r) ≤ vec-len (now (self .entry) .heads) ⌝ }
     {
-        self.heads.len().min(self.kept as usize)
+        let kept = self.heads.len().min(self.kept as usize);
+        &self.heads[0..kept]
     }
 
-    /// How many heads are removed.
-    pub fn removed_count(&self) -> usize
-        ensures value { λ r. ⌜ r ≡ length (rule-of (now (self .entry)) .removed) ⌝ }
-        ensures bound { λ r. ⌜ r ≤ vec-len (now (self .entry) .heads) ⌝ }
+    /// The symbols of the removed heads.
+    pub fn removed_heads(&self) -> &[u8]
+        ensures value { λ r. ⌜ now r ≡ rule-of (now (self .entry)) .removed ⌝ }
+        ensures bound { λ r. ⌜ length (now r) ≤ vec-len (now (self .entry) .heads) ⌝ }
     {
-        self.heads.len().saturating_sub(self.kept as usize)
+        let kept = self.heads.len().min(self.kept as usize);
+        &self.heads[kept..]
     }
 }
 

@@ -10,6 +10,7 @@ ghost use Rattle.rulefile.specs.Rulebooks.{rules-book};
 use crate::loaded::Rules;
 use rulereader::FileContents;
 use rules::Rule;
+use rules::Signature;
 
 impl Rules {
     /// The rules that a file holds.
@@ -26,19 +27,21 @@ impl Rules {
         }
     }
 
-    /// The argument count of each symbol.
-    pub fn arities(&self) -> &[u8]
-        ensures value { λ r. ⌜ now r ≡ rules-book (now (self .entry)) .arities ⌝ }
-        ensures valid { λ _. ⌜ Valid (rules-book (now (self .entry))) ⌝ }
-    {
-        &self.arities
-    }
-
     /// The rules, from the first to the last.
     pub fn rules(&self) -> &[Rule]
         ensures value { λ r. ⌜ map rule-of (now r) ≡ rules-book (now (self .entry)) .rules ⌝ }
         ensures valid { λ _. ⌜ Valid (rules-book (now (self .entry))) ⌝ }
     {
         &self.rules
+    }
+
+    /// The symbols that the file declares.
+    pub fn signature(&self) -> Signature<'_>
+        ensures value { λ r. ⌜ now (r .arities) ≡ rules-book (now (self .entry)) .arities ⌝ }
+        ensures valid { λ _. ⌜ Valid (rules-book (now (self .entry))) ⌝ }
+    {
+        Signature {
+            arities: &self.arities,
+        }
     }
 }

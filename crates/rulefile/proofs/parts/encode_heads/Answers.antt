@@ -1,4 +1,5 @@
-use mathlib.Core.Path.{subst, _∙_}
+use mathlib.Core.Path.{ap, subst, _∙_}
+use lib.ListN.{length}
 use Rattle.rulefile.specs.Written.{Writes}
 use Rattle.rulefile.proofs.Buffers.{wrote-then, writes-then}
 use Rattle.rulefile.proofs.Encodings.{all-units, heads-bytes-are}
@@ -12,7 +13,7 @@ returns c =
     let kept = c .in-Continue-number .ensures tt in
     let removed = c .in-Continue-number-2 .ensures tt in
     let all = c .encode-each .ensures in
-    let bytes = heads-bytes-are (c .args .rule .now) (c .kept-count .result) (c .removed-count .result) (c .deref .result .now) (c .kept-count .ensures .value) (c .removed-count .ensures .value) (c .deref .ensures .value) in
+    let bytes = heads-bytes-are (c .args .rule .now) (length (c .kept-heads .result .now)) (length (c .removed-heads .result .now)) (c .deref .result .now) (ap length (c .kept-heads .ensures .value)) (ap length (c .removed-heads .ensures .value)) (c .deref .ensures .value) in
     record {
       same = all .same ∙ removed .same ∙ kept .same;
       wrote = subst (λ x. Writes x (c .args .writer .now) (c .encode-each .result) (c .encode-each .last .writer)) bytes

@@ -1,8 +1,8 @@
 // How many symbols, arguments and slots there are.
 ghost use mathlib.Core.Path.{_≡_};
-ghost use Prim.Native.Nat.{_*_, _≤_};
+ghost use Prim.Native.Nat.{min, _≤_};
 ghost use lib.ListN.{length, getD};
 ghost use Rattle.rules.specs.Books.{slot-count};
 use crate::signature::Signature;
 
 impl Signature<'_> {
@@ -25,15 +25,14 @@ impl Signature<'_> {
         }
     }
 
-    /// How many slots heads of at most three symbols have together.
+    /// How many slots heads have together, up to 255.
     pub fn slots(&self, heads: &[u8]) -> u8
-        requires { ⌜ length (now heads) ≤ 3 ⌝ }
-        ensures value { λ r. ⌜ r ≡ slot-count (now (now (self .entry) .arities)) (now (heads .entry)) ⌝ }
-        ensures few { λ r. ⌜ r ≤ 12 ⌝ }
+        ensures value { λ r. ⌜ r ≡ min (slot-count (now (now (self .entry) .arities)) (now (heads .entry))) 255 ⌝ }
+        ensures few { λ r. ⌜ (length (now (heads .entry)) ≤ 3 → (r ≡ slot-count (now (now (self .entry) .arities)) (now (heads .entry))) × (r ≤ 12)) ⌝ }
     {
-        let mut slots = 0;
+        let mut slots: u8 = 0;
         for symbol in heads {
-            slots += self.arity(*symbol);
+            slots = slots.saturating_add(self.arity(*symbol));
         }
         slots
     }
