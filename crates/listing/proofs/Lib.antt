@@ -1,0 +1,3 @@
+pub mod Separations
+pub mod RuleTexts
+pub mod ListingTexts
