@@ -3,15 +3,16 @@ use listing::Listing;
 use listing::ListingDisplay;
 use rulefile::Rules;
 use rulefile::load_and_write;
-use rules::LoadRefusal;
+use rules::LoadRefusalDisplay;
 use std::error::AnyError;
 use std::fs;
+use std::io::ErrorKind;
 
 /// The bytes of the file, or none where it is missing.
 fn file_bytes(rt: &LibcRuntime) -> Result<Vec<u8>, AnyError> {
     match fs::read(rt, "rules.chr") {
-        Ok(bytes) => Ok(bytes),
-        Err(_) => Ok(Vec::new(rt.alloc())),
+        Err(e) if e.kind() == ErrorKind::NotFound => Ok(Vec::new(rt.alloc())),
+        read => Ok(read?),
     }
 }
 
@@ -34,20 +35,14 @@ fn list(rt: &LibcRuntime, bytes: &[u8], rules: &Rules, copy: &[u8]) -> Result<()
     Ok(())
 }
 
-/// Why the file was refused.
-fn refuse(rt: &LibcRuntime, refusal: LoadRefusal) -> Result<(), AnyError> {
-    match (refusal.number(), refusal.place()) {
-        (Some(number), Some(place)) => println!(rt, "refused {number} {place}")?,
-        _ => return Err("no memory".into()),
-    }
-    Ok(())
-}
-
 fn run(rt: &LibcRuntime) -> Result<(), AnyError> {
     let bytes = file_bytes(rt)?;
     match load_and_write(rt.alloc(), &bytes) {
         Ok((rules, copy)) => list(rt, &bytes, &rules, &copy),
-        Err(refusal) => refuse(rt, refusal),
+        Err(refusal) => {
+            println!(rt, "refused {refusal}")?;
+            Ok(())
+        }
     }
 }
 

@@ -1,6 +1,6 @@
 // Loads rule files that are given line by line as decimal bytes, and prints what each load answers.
 use rulefile::load_and_write;
-use rules::LoadRefusal;
+use rules::LoadRefusalDisplay;
 use std::alloc::Global;
 use std::error::AnyError;
 
@@ -25,26 +25,24 @@ fn file_of(heap: Global, line: &str) -> Result<Vec<u8>, AnyError> {
     Ok(bytes)
 }
 
-/// What a refused load says.
-fn refuse(rt: &LibcRuntime, refusal: LoadRefusal) -> Result<(), AnyError> {
-    match (refusal.number(), refusal.place()) {
-        (Some(number), Some(place)) => println!(rt, "refused {number} {place}")?,
-        _ => return Err("no memory".into()),
-    }
-    Ok(())
-}
-
 /// Loads a file, writes it out again and says what came of it.
 fn try_file(rt: &LibcRuntime, bytes: &[u8]) -> Result<(), AnyError> {
     match load_and_write(rt.alloc(), bytes) {
         Ok((rules, copy)) => {
             let symbols = rules.signature().arities.len();
             let count = rules.rules().len();
-            let how = if copy.as_slice() == bytes { "same" } else { "otherwise" };
+            let how = if copy.as_slice() == bytes {
+                "same"
+            } else {
+                "otherwise"
+            };
             println!(rt, "accepted {symbols} {count} {how}")?;
             Ok(())
         }
-        Err(refusal) => refuse(rt, refusal),
+        Err(refusal) => {
+            println!(rt, "refused {refusal}")?;
+            Ok(())
+        }
     }
 }
 

@@ -6,3 +6,4 @@ pub mod Format
 pub mod Refusals
 pub mod Parse
 pub mod Files
+pub mod Examples

@@ -1,5 +1,8 @@
 -- The number and the place of each refusal of a file. Assumes nothing.
+use mathlib.Core.List.{List, _++_}
 use Prim.Native.Nat.{ℕ}
+use lib.Chars.{codes}
+use Rattle.std.specs.Written.{decimal}
 use Rattle.std.specs.declared.option.Option.{Option}
 use Rattle.std.specs.declared.option.Option.the-variants.{Some, None}
 use Rattle.rules.specs.declared.LoadRefusal.{LoadRefusal}
@@ -24,3 +27,12 @@ refusal-place (OutOfRange k) = Some k
 refusal-place (Absent k) = Some k
 refusal-place (Trailing k) = Some k
 refusal-place NoMemory = None
+
+-- the number and the place as text
+abbrev pub pair-text : Option ℕ → Option ℕ → List ℕ
+pair-text None k = codes "no memory"
+pair-text (Some n) None = codes "no memory"
+pair-text (Some n) (Some k) = decimal n ++ (codes " " ++ decimal k)
+
+abbrev pub refusal-text : LoadRefusal → List ℕ
+refusal-text e = pair-text (refusal-number e) (refusal-place e)

@@ -1,17 +1,21 @@
 // Rules as data, and the codes that a rule file is made of.
 ghost use mathlib.Core.Path.{_≡_};
+ghost use mathlib.Core.List.{_∷_, []};
 ghost use Prim.Native.Nat.{_≤_};
 ghost use lib.ListN.{length};
 ghost use Rattle.std.specs.Of.Vec.{vec-len};
+ghost use Rattle.std.specs.declared.option.Option.the-variants.{Some};
 ghost use Rattle.rules.specs.Codes.{code-of, value-of};
+ghost use Rattle.rules.specs.Examples.{Values-written, Last-zero-refused};
 ghost use Rattle.rules.specs.declared.LoadRefusal.the-variants.{NoMemory};
-ghost use Rattle.rules.specs.Refusals.{refusal-number, refusal-place};
+ghost use Rattle.rules.specs.Refusals.{refusal-number, refusal-place, refusal-text};
 ghost use Rattle.rules.specs.Views.{rule-of};
 
 mod signature;
 
 pub use signature::Signature;
 use std::alloc::AllocError;
+use std::fmt;
 use terms::Primitive;
 use terms::Term;
 
@@ -118,6 +122,17 @@ impl LoadRefusal {
     }
 }
 
+pub impl fmt::Display for LoadRefusal as LoadRefusalDisplay {
+    ghost shown = { λ e. Some (refusal-text e) };
+
+    fn fmt<W: fmt::Write>(&self, f: &mut fmt::Formatter<W>) -> fmt::Result {
+        match (self.number(), self.place()) {
+            (Some(number), Some(place)) => write!(f, "{number} {place}"),
+            _ => f.write_str("no memory"),
+        }
+    }
+}
+
 /// The number that a value is written as: twice the value, or one less than twice its opposite when negative.
 pub fn value_code(value: i32) -> u32
     ensures { λ r. ⌜ r ≡ code-of value ⌝ }
@@ -135,4 +150,18 @@ pub fn code_value(code: u32) -> i32
 {
     let half = (code / 2) as i32;
     if code % 2 == 0 { half } else { -half - 1 }
+}
+
+/// The codes of 0, −1, 64 and −64, each a byte or two in a file.
+pub fn example_codes() -> [u32; 4]
+    ensures codes { λ r. ⌜ r ≡ 0 ∷ 1 ∷ 128 ∷ 127 ∷ [] ⌝ }
+    ensures bytes { λ _. ⌜ Values-written ⌝ }
+    ensures refused { λ _. ⌜ Last-zero-refused ⌝ }
+{
+    [
+        value_code(0),
+        value_code(-1),
+        value_code(64),
+        value_code(-64),
+    ]
 }
