@@ -1,22 +1,13 @@
 -- Codes of values: each is undone by the other.
-use mathlib.Core.Path.{_≡_, sym, ap, _∙_}
-use mathlib.Core.Bool.{true, false}
-use Prim.Native.Nat.{ℕ, _+_, _*_, _/_, _%_, _^_, _≤_, _<_}
+use mathlib.Core.Path.{_≡_, ap, _∙_}
+use Prim.Native.Nat.{ℕ, _+_, _*_, _/_, _%_, _≤_}
 use native.Mathlib.Omega.{arith}
 use lib.Dec.{eqb}
-use lib.IntN.{ℤ, pos, negsuc, _-ℤ_}
-use mir.Syntax.{w32}
-use mir.Val.{toZ, ofZ}
+use lib.IntN.{ℤ, pos, negsuc}
 use Rattle.std.proofs.shelf.Signed.{ints}
 use Rattle.std.proofs.shelf.Tests.{cond-true, cond-false, cond-both, ne-eqb, eq-eqb, eqb-true, eqb-false}
 use Rattle.terms.specs.Values.{IsValue}
 use Rattle.rules.specs.Codes.{value-of, code-of}
-
--- the value of an odd code, as the code computes it
-pub odd-value : (n : ℕ) → n < 2 ^ 32 → (n % 2 ≡ 0 → ⊥) → toZ w32 (ofZ w32 (toZ w32 (ofZ w32 (pos 0 -ℤ toZ w32 (n / 2))) -ℤ pos 1)) ≡ value-of n
-odd-value n f h =
-    let e : toZ w32 (ofZ w32 (toZ w32 (ofZ w32 (pos 0 -ℤ toZ w32 (n / 2))) -ℤ pos 1)) ≡ negsuc (n / 2) = omega (arith, ints) in
-    e ∙ sym (cond-false _ _ _ (ne-eqb (n % 2) 0 h))
 
 pub code-value : (n : ℕ) → code-of (value-of n) ≡ n
 code-value n = cond-both (eqb (n % 2) 0) (pos (n / 2)) (negsuc (n / 2)) (λ v. code-of v ≡ n)

@@ -55,8 +55,8 @@ impl Rule {
         ensures value { λ r. ⌜ now r ≡ rule-of (now (self .entry)) .removed ⌝ }
         ensures bound { λ r. ⌜ length (now r) ≤ vec-len (now (self .entry) .heads) ⌝ }
     {
-        let kept = self.heads.len().min(self.kept as usize);
-        &self.heads[kept..]
+        let start = self.heads.len().min(self.kept as usize);
+        &self.heads[start..]
     }
 }
 
@@ -149,7 +149,7 @@ pub fn code_value(code: u32) -> i32
     ensures { λ r. ⌜ r ≡ value-of code ⌝ }
 {
     let half = (code / 2) as i32;
-    if code % 2 == 0 { half } else { -half - 1 }
+    if code % 2 == 0 { half } else { -1 - half }
 }
 
 /// The codes of 0, −1, 64 and −64, each a byte or two in a file.

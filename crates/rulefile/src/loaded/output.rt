@@ -27,7 +27,7 @@ impl Rules {
     pub fn write(&self, out: &mut [u8]) -> Result<usize, WriteRefusal>
         ensures { λ r. ⌜ Written-out (file-bytes (rules-book (now (self .entry)))) (now (out .entry)) r (now (out .exit)) ⌝ }
     {
-        if out.len() < self.size {
+        if out.len() < self.file_len() {
             return Err(WriteRefusal::ShortBuffer);
         }
         let mut writer = Writer { dst: out, pos: 0 };

@@ -9,4 +9,4 @@ use Rattle.rulefile.proofs.loaded.Rules.write.Needs as need
 pub returns : need.returns
 returns c =
     let w = wrote-first (file-bytes (rules-book (c .args .self .now))) _ _ refl (c .in-Continue-encode-file .ensures tt .wrote) in
-    (w .0, omega (arith, c .if-out-self .left, c .args .self .now .sized), search needs)
+    (w .0, omega (arith, c .if-out-file-len .left, c .file-len .ensures), search needs)
