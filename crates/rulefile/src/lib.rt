@@ -32,6 +32,7 @@ pub fn load(heap: Global, bytes: &[u8]) -> Result<Rules, LoadRefusal>
 pub fn load_and_write(heap: Global, bytes: &[u8]) -> Result<(Rules, Vec<u8>), LoadRefusal>
     ensures answer { λ r. ⌜ Loaded copy-book (file (now (bytes .entry))) r ⌝ }
     ensures again { λ r. ⌜ made r (λ c. vec-items (c .1) ≡ now (bytes .entry)) ⌝ }
+    ensures unchanged { λ _. ⌜ now (bytes .exit) ≡ now (bytes .entry) ⌝ }
 {
     let rules = load(heap, bytes)?;
     let mut copy = vec![in heap; 0; rules.file_len()]?;

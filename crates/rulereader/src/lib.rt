@@ -23,6 +23,9 @@ use rules::Rule;
 use rules::Signature;
 use std::alloc::Global;
 
+/// The most bytes that a rule file has.
+const LONGEST: usize = 4096;
+
 /// What a rule file holds: the argument count of each symbol, and the rules.
 #[derive(Drop)]
 pub struct FileContents {
@@ -34,7 +37,7 @@ pub struct FileContents {
 pub fn read_file(heap: Global, bytes: &[u8]) -> Result<FileContents, LoadRefusal>
     ensures { λ r. ⌜ Loaded contents-book (file (now (bytes .entry))) r ⌝ }
 {
-    if bytes.len() > 4096 {
+    if bytes.len() > LONGEST {
         return Err(LoadRefusal::TooLong);
     }
     if !is_marked(bytes) {
