@@ -1,0 +1,25 @@
+-- What a put is answered, by its parts.
+use mathlib.Core.Path.{_≡_, refl, sym, ap, _∙_}
+use mathlib.Core.Bool.{Bool, true, false}
+use Prim.Native.Nat.{ℕ, _≤_, _<_}
+use lib.Dec.{ltb}
+use Rattle.std.proofs.shelf.Tests.{lt-ltb, le-ltb}
+use Rattle.table.specs.Lists.{is-none}
+use Rattle.table.specs.Records.{Record, fit}
+use Rattle.table.specs.Tables.{Table, size, judged, put-answer}
+use Rattle.table.specs.declared.put.Put.{Put}
+use Rattle.table.specs.declared.put.Put.the-variants.{Added, Unfit, Twice, Full}
+
+pub is-unfit : (t : Table) (limit n : ℕ) (r : Record) → fit n r ≡ false → put-answer t limit n r ≡ Unfit
+is-unfit t limit n r f = ap (λ b. judged b (is-none (t n)) (ltb (size t) limit)) f
+
+pub is-twice : (t : Table) (limit n : ℕ) (r : Record) → fit n r ≡ true → is-none (t n) ≡ false → put-answer t limit n r ≡ Twice
+is-twice t limit n r f e = ap (λ b. judged b (is-none (t n)) (ltb (size t) limit)) f ∙ ap (λ b. judged true b (ltb (size t) limit)) e
+
+pub is-full : (t : Table) (limit n : ℕ) (r : Record) → fit n r ≡ true → is-none (t n) ≡ true → limit ≤ size t → put-answer t limit n r ≡ Full
+is-full t limit n r f e l =
+    ap (λ b. judged b (is-none (t n)) (ltb (size t) limit)) f ∙ ap (λ b. judged true b (ltb (size t) limit)) e ∙ ap (judged true true) (le-ltb (size t) limit l)
+
+pub is-added : (t : Table) (limit n : ℕ) (r : Record) → fit n r ≡ true → is-none (t n) ≡ true → size t < limit → put-answer t limit n r ≡ Added
+is-added t limit n r f e l =
+    ap (λ b. judged b (is-none (t n)) (ltb (size t) limit)) f ∙ ap (λ b. judged true b (ltb (size t) limit)) e ∙ ap (judged true true) (lt-ltb (size t) limit l)
