@@ -21,7 +21,7 @@ use Rattle.table.specs.Nexts.{Next-of, answers, lower}
 use Rattle.table.specs.Rows.{record-of, look, lawful}
 use Rattle.table.specs.declared.row.Row.{Row}
 use Rattle.table.proofs.Tables.{both, only, none-is, tally-none, size-both, size-only, with-both, without-here, without-other}
-use Rattle.table.proofs.Nexts.{next-both, next-only, next-only-not}
+use Rattle.table.proofs.Nexts.{next-both, next-only, next-both-not}
 
 -- the parts of `lawful`
 pub record Parts (x : Row) (xs : List Row) : Type 0 where
@@ -214,10 +214,5 @@ next-more xs k x s key low n o b l r least i lt pass b-is =
 pub next-more-not : (xs : List Row) (k : ℕ) (x : Row) (s : Option ℕ) (key : Option ℤ) (low n : ℕ) (o b : Option ℕ) → k < length xs → ((d : Row) → x ≡ getD xs k d) → Next-of (look (take k xs)) s key low o → n ≡ x .identifier → (low < n → answers s key (record-of x) ≡ false) → b ≡ o → Next-of (look (take (k + 1) xs)) s key low b
 next-more-not xs k x s key low n o b l r least i none b-is =
     subst (λ t. Next-of t s key low b) (sym (look-more xs k x l r))
-    (subst (λ c. Next-of (both (look (take k xs)) (only (x .identifier) (record-of x))) s key low c) (sym (b-is ∙ same o))
-    (next-both (look (take k xs)) (only (x .identifier) (record-of x)) s key low o None least
-    (next-only-not (x .identifier) (record-of x) s key low (λ lt. none (omega arith)))))
-  where
-    same : (u : Option ℕ) → u ≡ lower u None
-    same None = refl
-    same (Some m) = refl
+    (subst (λ c. Next-of (both (look (take k xs)) (only (x .identifier) (record-of x))) s key low c) (sym b-is)
+    (next-both-not (look (take k xs)) (x .identifier) (record-of x) s key low o least (λ lt. none (omega arith))))

@@ -79,3 +79,12 @@ next-only-not n r s k low h i l = elim (cases-eq n i) [
   | inl e ↦ ap (λ c. any-answers s k (cond c (r ∷ []) [])) (eq-eqb n i e) ∙ any-one s k r ∙ h (omega arith)
   | inr e ↦ ap (λ c. any-answers s k (cond c (r ∷ []) [])) (ne-eqb n i e)
 ]
+
+-- beside a record that does not answer, the next is as it was
+pub next-both-not : (t : Table) (n : ℕ) (r : Record) (s : Option ℕ) (k : Option ℤ) (low : ℕ) (o : Option ℕ) → Next-of t s k low o → (low < n → answers s k r ≡ false) → Next-of (both t (only n r)) s k low o
+next-both-not t n r s k low o least h =
+    subst (λ u. Next-of (both t (only n r)) s k low u) (same o) (next-both t (only n r) s k low o None least (next-only-not n r s k low h))
+  where
+    same : (u : Option ℕ) → lower u None ≡ u
+    same None = refl
+    same (Some m) = refl
