@@ -16,11 +16,11 @@ use Rattle.std.proofs.shelf.Tests.{cases-eq, eq-eqb, ne-eqb, and-parts, and-fro
 use Rattle.terms.specs.Lists.{All}
 use Rattle.table.specs.Lists.{is-none, first}
 use Rattle.table.specs.Records.{Record, fit, all-fitting}
-use Rattle.table.specs.Tables.{Table, size, with-record, without}
+use Rattle.table.specs.Tables.{Table, size, with-record, both, without}
 use Rattle.table.specs.Nexts.{Next-of, answers, lower}
 use Rattle.table.specs.Rows.{record-of, look, lawful}
 use Rattle.table.specs.declared.row.Row.{Row}
-use Rattle.table.proofs.Tables.{both, only, none-is, tally-none, size-both, size-only, with-both, without-here, without-other}
+use Rattle.table.proofs.Tables.{only, none-is, tally-none, size-both, size-only, with-both, without-here, without-other}
 use Rattle.table.proofs.Nexts.{next-both, next-only, next-both-not}
 
 -- the parts of `lawful`
@@ -59,7 +59,7 @@ pub look-other : (x : Row) (xs : List Row) (i : ℕ) → (x .identifier ≡ i �
 look-other x xs i e = ap (λ b. cond b (record-of x ∷ look xs i) (look xs i)) (ne-eqb (x .identifier) i e)
 
 -- rows after rows are tables side by side
-look-append : (xs ys : List Row) (i : ℕ) → look (xs ++ ys) i ≡ look xs i ++ look ys i
+pub look-append : (xs ys : List Row) (i : ℕ) → look (xs ++ ys) i ≡ look xs i ++ look ys i
 look-append [] ys i = refl
 look-append (x ∷ xs) ys i = ap (λ zs. cond (eqb (x .identifier) i) (record-of x ∷ zs) zs) (look-append xs ys i) ∙ go (eqb (x .identifier) i) (look xs i)
   where

@@ -12,9 +12,9 @@ use Rattle.std.specs.declared.option.Option.the-variants.{Some, None}
 use Rattle.std.proofs.shelf.Tests.{cases-eq, cases-lt, cases-bool, cond-both, leb-true, leb-false, eq-eqb, ne-eqb, or-from, or-left, or-right, both-ways}
 use Rattle.table.specs.Lists.{is-none}
 use Rattle.table.specs.Records.{Record}
-use Rattle.table.specs.Tables.{Table}
+use Rattle.table.specs.Tables.{Table, both}
 use Rattle.table.specs.Nexts.{Least, Next-of, answers, any-answers, lower}
-use Rattle.table.proofs.Tables.{both, only}
+use Rattle.table.proofs.Tables.{only}
 
 -- where either test may pass, the least is the lower of both
 pub least-join : (p q : ℕ → Bool) (low : ℕ) (o u : Option ℕ) → Least p low o → Least q low u → Least (λ i. p i || q i) low (lower o u)

@@ -11,11 +11,7 @@ use Rattle.std.proofs.shelf.Tests.{cases-eq, eq-eqb, ne-eqb, both-ways, cond-tr
 use Rattle.std.proofs.shelf.Lists.{append-nil}
 use Rattle.table.specs.Lists.{is-none, memberb}
 use Rattle.table.specs.Records.{Record}
-use Rattle.table.specs.Tables.{Table, tally, size, nothing, with-record, without}
-
--- the records of the one before those of the other
-abbrev pub both : Table → Table → Table
-both s t i = s i ++ t i
+use Rattle.table.specs.Tables.{Table, tally, size, nothing, with-record, both, without}
 
 -- one record
 abbrev pub only : ℕ → Record → Table

@@ -1,6 +1,6 @@
 -- What a partner table means, and what its changes do to it. Assumes nothing.
 use mathlib.Core.Bool.{Bool, true, false, cond}
-use mathlib.Core.List.{List, [], _∷_}
+use mathlib.Core.List.{List, [], _∷_, _++_}
 use Prim.Native.Nat.{ℕ, zero, suc, _+_}
 use lib.Dec.{eqb, ltb}
 use lib.ListN.{length}
@@ -29,6 +29,10 @@ size t = tally t 1000000
 -- the record r under n, where none stands there yet
 abbrev pub with-record : Table → ℕ → Record → Table
 with-record t n r i = cond (eqb n i) (cond (is-none (t n)) (r ∷ []) (t n)) (t i)
+
+-- the records of the one before those of the other, under each identifier
+abbrev pub both : Table → Table → Table
+both s t i = s i ++ t i
 
 -- no record under those identifiers
 abbrev pub without : Table → List ℕ → Table
