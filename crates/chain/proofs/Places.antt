@@ -10,13 +10,11 @@ use lib.ListN.{length, getD, set}
 use Rattle.std.specs.declared.option.Option.{Option}
 use Rattle.std.specs.declared.option.Option.the-variants.{Some, None}
 use Rattle.std.proofs.shelf.Tests.{both-ways, and-from, eq-eqb}
-use Rattle.terms.specs.Lists.{All}
-use Rattle.table.specs.Records.{Record, fit}
 use Rattle.table.specs.Nexts.{any-answers}
 use Rattle.table.specs.Rows.{look, lawful, record-of}
 use Rattle.table.specs.declared.row.Row.{Row}
 use Rattle.table.proofs.Looks.{look-fits, look-read, parts, first-apart}
-use Rattle.table.proofs.Nexts.{any-one}
+use Rattle.table.proofs.Nexts.{any-one, zero-none}
 use Rattle.chain.specs.Chains.{To}
 use Rattle.chain.proofs.Walks.{symbol-is}
 
@@ -33,11 +31,7 @@ pub row-answers : (xs : List Row) (k : ℕ) (d : Row) (s : ℕ) → lawful xs �
 row-answers xs k d s h l e = ap (any-answers (Some s) None) (look-read xs k d h l) ∙ any-one (Some s) None (record-of (getD xs k d)) ∙ and-from _ _ (eq-eqb s (getD xs k d .symbol) (sym e)) refl
 
 pub zero-answers : (xs : List Row) (s : ℕ) → lawful xs ≡ true → any-answers (Some s) None (look xs 0) ≡ false
-zero-answers xs s h = go (look xs 0) (look-fits xs h 0)
-  where
-    go : (rs : List Record) → All (λ r. fit 0 r ≡ true) rs → any-answers (Some s) None rs ≡ false
-    go [] f = refl
-    go (r ∷ rs) f = absurd (both-ways false refl (f .0))
+zero-answers xs s h = zero-none (Some s) None (look xs 0) (look-fits xs h 0)
 
 -- the symbol of the row that a link leads to
 pub to-symbol : (xs : List Row) (k s low : ℕ) (d : Row) → lawful xs ≡ true → To xs (Some k) s low → getD xs k d .symbol ≡ s

@@ -11,7 +11,8 @@ use Rattle.std.specs.declared.option.Option.{Option}
 use Rattle.std.specs.declared.option.Option.the-variants.{Some, None}
 use Rattle.std.proofs.shelf.Tests.{cases-eq, cases-lt, cases-bool, cond-both, leb-true, leb-false, eq-eqb, ne-eqb, or-from, or-left, or-right, both-ways}
 use Rattle.table.specs.Lists.{is-none}
-use Rattle.table.specs.Records.{Record}
+use Rattle.terms.specs.Lists.{All}
+use Rattle.table.specs.Records.{Record, fit}
 use Rattle.table.specs.Tables.{Table, both}
 use Rattle.table.specs.Nexts.{Least, Next-of, answers, any-answers, lower}
 use Rattle.table.proofs.Tables.{only}
@@ -88,3 +89,8 @@ next-both-not t n r s k low o least h =
     same : (u : Option ℕ) → lower u None ≡ u
     same None = refl
     same (Some m) = refl
+
+-- nothing stands under 0
+pub zero-none : (s : Option ℕ) (k : Option ℤ) (rs : List Record) → All (λ r. fit 0 r ≡ true) rs → any-answers s k rs ≡ false
+zero-none s k [] f = refl
+zero-none s k (r ∷ rs) f = absurd (both-ways false refl (f .0))
