@@ -47,7 +47,11 @@ pub fn make<P: PartnerTable>(table: &mut P, call: &Call) -> Answer {
             Answer::Done
         }
         Call::Count => Answer::Number(table.count() as u32),
-        Call::Put(identifier, symbol, arguments) => Answer::Put(table.put(*identifier, *symbol, arguments.as_slice())),
+        Call::Put(identifier, symbol, arguments) => Answer::Put(table.put(
+            *identifier,
+            *symbol,
+            arguments.as_slice(),
+        )),
         Call::Remove(identifier) => Answer::Removed(table.remove(*identifier)),
         Call::Next(symbol, key, above) => number(table.next(*symbol, *key, *above)),
         Call::Symbol(identifier) => small(table.symbol(*identifier)),

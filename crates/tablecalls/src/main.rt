@@ -2,13 +2,13 @@
 mod answers;
 mod calls;
 
+use self::answers::AnswerDisplay;
+use self::answers::make;
+use self::calls::parse;
 use chain::ChainPartnerTable;
 use chain::ChainTable;
 use front::FrontPartnerTable;
 use front::FrontTable;
-use self::answers::AnswerDisplay;
-use self::answers::make;
-use self::calls::parse;
 use std::error::AnyError;
 use table::scan::ScanPartnerTable;
 use table::scan::ScanTable;
