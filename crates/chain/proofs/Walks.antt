@@ -19,7 +19,7 @@ use Rattle.table.specs.Rows.{look, lawful, record-of}
 use Rattle.table.specs.declared.row.Row.{Row}
 use Rattle.table.proofs.Looks.{look-read, symbol-fit}
 use Rattle.table.proofs.Nexts.{any-one}
-use Rattle.chain.specs.Chains.{To}
+use Rattle.chain.specs.Chains.{To, Stands}
 
 -- What is left of a chain, as a number that falls.
 abbrev pub ident-at : List Row → ℕ → ℕ
@@ -77,8 +77,9 @@ module _ (xs : List Row) (lawful-xs : lawful xs ≡ true) (s : ℕ) (key : Optio
   pub way-start : (o : Option ℕ) → To xs o s 0 → Way xs s key above o
   way-start o to = (0, to, λ i a b. absurd (omega arith))
 
-  pub way-found : (k : ℕ) (x : Row) (n : ℕ) → Way xs s key above (Some k) → x ≡ getD xs k x → n ≡ x .identifier → above < n → answers None key (record-of x) ≡ true → Next-of (look xs) (Some s) key above (Some n)
-  way-found k x n w r e a h =
+  pub way-found : (k : ℕ) (x : Row) (o : Option ℕ) (n : ℕ) → Way xs s key above (Some k) → Stands xs k x o → n ≡ x .identifier → above < n → answers None key (record-of x) ≡ true → Next-of (look xs) (Some s) key above (Some n)
+  way-found k x o n w st e a h =
+      let r = st .at x in
       let at = here k x (w .0) (w .1 .0) r (w .1 .1 x) in
       let m : n ≡ getD xs k x .identifier = e ∙ ap (λ (y : Row). y .identifier) r in (
         a,
@@ -87,12 +88,13 @@ module _ (xs : List Row) (lawful-xs : lawful xs ≡ true) (s : ℕ) (key : Optio
         λ i b c. before (w .0) (getD xs k x .identifier) (w .1 .1 x) (w .2) i b (omega arith),
       )
 
-  pub way-passed : (k : ℕ) (x : Row) (n : ℕ) (o : Option ℕ) → Way xs s key above (Some k) → x ≡ getD xs k x → n ≡ x .identifier → (above < n → answers None key (record-of x) ≡ false) → To xs o (getD xs k x .symbol) (getD xs k x .identifier) → Way xs s key above o
-  way-passed k x n o w r e h to =
+  pub way-passed : (k : ℕ) (x : Row) (o : Option ℕ) (n : ℕ) → Way xs s key above (Some k) → Stands xs k x o → n ≡ x .identifier → (above < n → answers None key (record-of x) ≡ false) → Way xs s key above o
+  way-passed k x o n w st e h =
+      let r = st .at x in
       let at = here k x (w .0) (w .1 .0) r (w .1 .1 x) in
       let m : getD xs k x .identifier ≡ n = sym (e ∙ ap (λ (y : Row). y .identifier) r) in (
         n,
-        subst (λ i. To xs o s i) m (subst (λ v. To xs o v (getD xs k x .identifier)) (sym (at .1 ∙ ap (λ (y : Row). y .symbol) r)) to),
+        subst (λ i. To xs o s i) (sym e) (subst (λ v. To xs o v (x .identifier)) (sym (at .1)) (st .next)),
         λ i a b. elim (cases-lt i n) [
           | inl c ↦ before (w .0) (getD xs k x .identifier) (w .1 .1 x) (w .2) i a (omega arith)
           | inr c ↦
@@ -107,7 +109,8 @@ module _ (xs : List Row) (lawful-xs : lawful xs ≡ true) (s : ℕ) (key : Optio
     | inr c ↦ w .2 i a c
   ]
 
-pub way-falls : (xs : List Row) (k : ℕ) (x : Row) (o : Option ℕ) (s n : ℕ) → k < length xs → x ≡ getD xs k x → n ≡ x .identifier → n < 2 ^ 32 → To xs o s (getD xs k x .identifier) → left xs o < left xs (Some k)
-way-falls xs k x None s n l r e f to = omega (arith, ident-is xs k x l, e ∙ ap (λ (y : Row). y .identifier) r)
-way-falls xs k x (Some j) s n l r e f to =
-    omega (arith, ident-is xs k x l, e ∙ ap (λ (y : Row). y .identifier) r, ident-is xs j x (to .0), to .1 x .0)
+-- a step along a chain leaves less of it
+pub chain-falls : (xs : List Row) (k : ℕ) (x : Row) (o : Option ℕ) → k < length xs → Stands xs k x o → x .identifier < 2 ^ 32 → left xs o < left xs (Some k)
+chain-falls xs k x None l st f = omega (arith, ident-is xs k x l, ap (λ (y : Row). y .identifier) (st .at x))
+chain-falls xs k x (Some j) l st f =
+    omega (arith, ident-is xs k x l, ap (λ (y : Row). y .identifier) (st .at x), ident-is xs j x (st .next .0), st .next .1 x .0)

@@ -23,6 +23,11 @@ pub record Linked (rows : List Row) (links heads : List (Option ℕ)) : Type 0 w
   pub firsts : (s : ℕ) → s < 32 → To rows (getD heads s None) s 0
   pub others : (k : ℕ) → k < length rows → (d : Row) → To rows (getD links k None) (getD rows k d .symbol) (getD rows k d .identifier)
 
+-- the row at a place, with its link
+pub record Stands (rows : List Row) (k : ℕ) (x : Row) (link : Option ℕ) : Type 0 where
+  pub at : (d : Row) → x ≡ getD rows k d
+  pub next : To rows link (x .symbol) (x .identifier)
+
 -- the last row of a symbol below an identifier, or none where there is no such row
 abbrev pub Before : List Row → ℕ → ℕ → Option ℕ → Type 0
 Before rows s n None = (i : ℕ) → i < n → any-answers (Some s) None (look rows i) ≡ false

@@ -1,8 +1,8 @@
 ghost use mathlib.Core.List.{map};
 ghost use mathlib.Core.Path.{_≡_};
-ghost use Prim.Native.Nat.{_≤_};
-ghost use Rattle.chain.specs.Chains.{To, Linked, Before, relinked, shifted};
-ghost use Rattle.std.specs.Of.Vec.{vec-items, vec-cap};
+ghost use Prim.Native.Nat.{_≤_, _<_};
+ghost use Rattle.chain.specs.Chains.{To, Linked, Stands, Before, relinked, shifted};
+ghost use Rattle.std.specs.Of.Vec.{vec-items, vec-len, vec-cap};
 ghost use Rattle.std.specs.Vec.{made};
 ghost use Rattle.std.specs.declared.option.Option.the-variants.{Some};
 ghost use Rattle.table.specs.Nexts.{Next-of};
@@ -12,6 +12,7 @@ use std::alloc::AllocError;
 use std::alloc::Global;
 use table::partner::PartnerTable;
 use table::put::Put;
+use table::row::Row;
 use table::rows;
 use table::rows::Rows;
 use table::rows::SYMBOLS;
@@ -56,19 +57,26 @@ impl ChainTable {
         }
     }
 
+    /// The row at a place, and the place of the next row of its symbol.
+    fn stand(&self, place: usize) -> (Row, Option<usize>)
+        requires { ⌜ place < vec-len (now self .rows .items) ⌝ }
+        ensures { λ r. ⌜ Stands (vec-items (now (self .entry) .rows .items)) place (r .0) (r .1) ⌝ }
+    {
+        (self.rows.as_slice()[place], self.links[place])
+    }
+
     /// The next of a symbol, along its chain.
     fn next_of(&self, symbol: u8, key: Option<i32>, above: u32) -> Option<u32>
         ensures { λ r. ⌜ Next-of (look (vec-items (now (self .entry) .rows .items))) (Some symbol) key above r ⌝ }
     {
-        let rows = self.rows.as_slice();
         let mut at = self.head(symbol);
         while let Some(place) = at {
-            let row = rows[place];
+            let (row, rest) = self.stand(place);
             let identifier = row.identifier();
             if identifier > above && row.answers(None, key) {
                 return Some(identifier);
             }
-            at = self.links[place];
+            at = rest;
         }
         None
     }
@@ -77,16 +85,15 @@ impl ChainTable {
     fn before(&self, symbol: u8, identifier: u32) -> Option<usize>
         ensures { λ r. ⌜ Before (vec-items (now (self .entry) .rows .items)) symbol identifier r ⌝ }
     {
-        let rows = self.rows.as_slice();
         let mut last = None;
         let mut at = self.head(symbol);
         while let Some(place) = at {
-            let row = rows[place];
+            let (row, rest) = self.stand(place);
             if row.identifier() >= identifier {
                 return last;
             }
             last = Some(place);
-            at = self.links[place];
+            at = rest;
         }
         last
     }
@@ -112,7 +119,7 @@ pub impl PartnerTable for ChainTable as ChainPartnerTable {
     }
 
     fn put(&mut self, identifier: u32, symbol: u8, arguments: &[Operand]) -> Put {
-        let place = self.rows.count();
+        let place = self.count();
         let last = self.before(symbol, identifier);
         let answer = self.rows.put(identifier, symbol, arguments);
         if let Put::Added = answer {

@@ -112,7 +112,7 @@ pub impl<P: PartnerTable> PartnerTable for FrontTable<P> as FrontPartnerTable {
         self.own.truncate(count);
         let own = self.own.remove(identifier).is_some();
         let behind = self.behind.remove(identifier);
-        own || behind
+        own | behind
     }
 
     fn next(&self, symbol: Option<u8>, key: Option<i32>, above: u32) -> Option<u32> {

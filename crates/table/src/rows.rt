@@ -69,10 +69,10 @@ impl Rows {
         if !is_fit(identifier, symbol, arguments) {
             return Put::Unfit;
         }
-        if position(self.items.as_slice(), identifier).is_some() {
+        if position(self.as_slice(), identifier).is_some() {
             return Put::Twice;
         }
-        if self.items.len() >= self.limit {
+        if self.count() >= self.limit {
             return Put::Full;
         }
         self.items
@@ -86,7 +86,7 @@ impl Rows {
         ensures after { λ _. ⌜ look (vec-items (now (self .exit) .items)) ≡ without (look (vec-items (now (self .entry) .items))) (identifier ∷ []) ⌝ }
         ensures limit { λ _. ⌜ now (self .exit) .limit ≡ now (self .entry) .limit ⌝ }
     {
-        match position(self.items.as_slice(), identifier) {
+        match position(self.as_slice(), identifier) {
             Some(place) => {
                 let _ = self.items.remove(place);
                 Some(place)

@@ -33,13 +33,13 @@ impl Row {
         self.identifier
     }
 
-    pub fn symbol(&self) -> u8
+    pub(crate) fn symbol(&self) -> u8
         ensures { λ r. ⌜ r ≡ record-of (now (self .entry)) .symbol ⌝ }
     {
         self.symbol
     }
 
-    pub fn argument(&self, place: usize) -> Option<Operand>
+    pub(crate) fn argument(&self, place: usize) -> Option<Operand>
         ensures { λ r. ⌜ r ≡ nth (record-of (now (self .entry)) .arguments) place ⌝ }
     {
         if place < self.used {

@@ -40,7 +40,7 @@ pub fn perform<P: PartnerTable>(table: &mut P, changes: &[Change]) -> bool
     let mut roomy = true;
     for change in changes {
         let found = make(table, change);
-        roomy = roomy && found;
+        roomy &= found;
     }
     roomy
 }
@@ -59,5 +59,5 @@ pub fn alike<P: PartnerTable, Q: PartnerTable>(
 {
     let in_one = perform(one, changes);
     let in_other = perform(other, changes);
-    in_one && in_other
+    in_one & in_other
 }

@@ -1,13 +1,9 @@
 use mathlib.Core.Path.{_≡_, sym, ap, _∙_, subst}
-use mathlib.Core.Bool.{_&&_}
-use lib.ListN.{drop}
-use Prim.Native.Nat.{_+_}
 use Rattle.std.proofs.shelf.Lists.{at-drop-all}
 use Rattle.table.specs.Tables.{nothing}
 use Rattle.tablelaws.specs.Changes.{changed-all, all-find-room, AtMostOne}
 use Rattle.tablelaws.proofs.Changing.{single-nothing, run-more, rooms-more, rooms-done}
 use Rattle.tablelaws.proofs.changes.runs.perform.Needs as need
-use Rattle.tablelaws.proofs.changes.runs.perform.Needs.{then-roomy, else-roomy}
 
 pub loop-change-holds : need.loop-change-holds
 loop-change-holds g c =
@@ -20,14 +16,9 @@ loop-change-again g c =
     let cs = c .args .changes .now in
     let k = c .loop-change .change-index in
     let t = g .P·PartnerTable .records (c .loop-change .table) in
-    let u = g .P·PartnerTable .records (c .make-found .last .table) in
-    let roomy : c .if-roomy .roomy ≡ (c .loop-change .roomy && c .make-found .result) = elim (c .if-roomy .came) [
-      | then-roomy w ↦ w .roomy-is ∙ sym (ap (λ b. b && c .make-found .result) (w .if-roomy .taken))
-      | else-roomy w ↦ w .roomy-is ∙ w .if-roomy .left ∙ sym (ap (λ b. b && c .make-found .result) (w .if-roomy .left))
-    ] in (
+    let u = g .P·PartnerTable .records (c .make-found .last .table) in (
       run-more limit cs k (c .change-item .result) t u (c .loop-change-test .taken) (c .change-item .is) (c .make-found .ensures .after) ∙ c .loop-change .inv .0,
-      ap (λ b. b && all-find-room limit (drop (k + 1) cs) u) roomy
-          ∙ rooms-more limit cs k (c .change-item .result) t u (c .loop-change .roomy) (c .make-found .result) (c .loop-change-test .taken) (c .change-item .is) (c .make-found .ensures .after) (c .make-found .ensures .value)
+      rooms-more limit cs k (c .change-item .result) t u (c .loop-change .roomy) (c .make-found .result) (c .loop-change-test .taken) (c .change-item .is) (c .make-found .ensures .after) (c .make-found .ensures .value)
           ∙ c .loop-change .inv .1,
     )
 
