@@ -11,8 +11,13 @@ import random
 import sys
 from pathlib import Path
 
-# scan, chain, a front before each, and a front before a front before a chain
-CAPACITIES = [256, 256, 256 + 32, 256 + 32, 256 + 32 + 32]
+TABLES = [
+    ("scan", 256),
+    ("chain", 256),
+    ("front before scan", 32 + 256),
+    ("front before chain", 32 + 256),
+    ("front before front", 32 + 32 + 256),
+]
 
 
 class Table:
@@ -161,11 +166,13 @@ def at_random(how_many):
 
 
 def main():
-    tables = [Table(capacity) for capacity in CAPACITIES]
-    calls, answers = [], []
-    for name, *arguments in [*by_hand(), *filled(), *at_random(400)]:
-        calls.append(" ".join([name] + ["-" if a is None else str(a) for a in arguments]))
-        answers.append(" ".join(getattr(table, name)(*arguments) for table in tables))
+    script = [*by_hand(), *filled(), *at_random(400)]
+    calls = [" ".join([name] + ["-" if a is None else str(a) for a in arguments]) for name, *arguments in script]
+    answers = []
+    for kind, capacity in TABLES:
+        table = Table(capacity)
+        answers.append(f"{kind} holds {capacity}")
+        answers += [getattr(table, name)(*arguments) for name, *arguments in script]
     folder = Path(__file__).resolve().parent.parent / "crates" / "tablecalls"
     for name, lines in (("stdin", calls), ("stdout", answers)):
         text = "\n".join(lines) + "\n"

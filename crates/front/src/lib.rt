@@ -56,6 +56,7 @@ impl<P: PartnerTable> FrontTable<P> {
         self.own_rows().len()
     }
 
+    /// Its own rows that are in use.
     fn own_rows(&self) -> &[Row]
         ensures { λ r. ⌜ now r ≡ take (own-limit (P·PartnerTable .limit)) (vec-items (now (self .entry) .own .items)) ⌝ }
     {
@@ -108,6 +109,7 @@ pub impl<P: PartnerTable> PartnerTable for FrontTable<P> as FrontPartnerTable {
     }
 
     fn remove(&mut self, identifier: u32) -> bool {
+        // No row is ever put past its own, but the type does not say so.
         let count = self.own_capacity();
         self.own.truncate(count);
         let own = self.own.remove(identifier).is_some();
