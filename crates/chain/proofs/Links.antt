@@ -1,21 +1,18 @@
 -- Links are as they are in one way only, and of no rows there are none.
-use mathlib.Core.Path.{_≡_, refl, sym, ap, _∙_, subst}
+use mathlib.Core.Path.{_≡_, refl, sym, subst}
 use mathlib.Core.Bool.{Bool, true, false, Bool-set}
 use mathlib.Core.HLevel.{Π-prop, ×-prop, ×₃-prop}
 use mathlib.Core.Logic.{∥∥₁-elim}
 use mathlib.Core.List.{List, [], _∷_}
-use Prim.Native.Nat.{ℕ, zero, suc, _≤_, _<_}
+use Prim.Native.Nat.{ℕ, zero, suc}
 use native.Mathlib.Bridge.{le-prop}
 use native.Mathlib.Nat.{ℕ-set}
 use native.Mathlib.Omega.{arith}
-use lib.IntN.{ℤ}
 use lib.ListN.{length, getD}
 use Rattle.std.specs.declared.option.Option.{Option}
 use Rattle.std.specs.declared.option.Option.the-variants.{Some, None}
 use Rattle.std.proofs.shelf.Tests.{both-ways}
-use Rattle.table.specs.Tables.{Table}
-use Rattle.table.specs.Nexts.{Least, Next-of}
-use Rattle.table.specs.Rows.{look}
+use Rattle.table.specs.Nexts.{Least}
 use Rattle.table.specs.declared.row.Row.{Row}
 use Rattle.chain.specs.Chains.{To, Linked}
 

@@ -1,15 +1,12 @@
 -- Rows by their places: each has an identifier of its own, and answers to its symbol.
-use mathlib.Core.Path.{_≡_, refl, sym, ap, _∙_, subst}
-use mathlib.Core.Bool.{Bool, true, false, _&&_}
-use mathlib.Core.List.{List, [], _∷_, _++_}
-use mathlib.Core.Logic.{_⊎_, inl, inr}
-use Prim.Native.Nat.{ℕ, zero, suc, _+_, _≤_, _<_}
+use mathlib.Core.Path.{_≡_, refl, sym, ap, _∙_}
+use mathlib.Core.Bool.{true, false}
+use mathlib.Core.List.{List, [], _∷_}
+use Prim.Native.Nat.{ℕ, zero, suc, _<_}
 use native.Mathlib.Omega.{arith}
-use lib.Dec.{eqb}
-use lib.ListN.{length, getD, set}
-use Rattle.std.specs.declared.option.Option.{Option}
+use lib.ListN.{length, getD}
 use Rattle.std.specs.declared.option.Option.the-variants.{Some, None}
-use Rattle.std.proofs.shelf.Tests.{both-ways, and-from, eq-eqb}
+use Rattle.std.proofs.shelf.Tests.{and-from, eq-eqb}
 use Rattle.table.specs.Nexts.{any-answers}
 use Rattle.table.specs.Rows.{look, lawful, record-of}
 use Rattle.table.specs.declared.row.Row.{Row}

@@ -1,19 +1,18 @@
 -- A walk along a chain.
 use mathlib.Core.Path.{_≡_, refl, sym, ap, _∙_, subst}
-use mathlib.Core.Bool.{Bool, true, false, cond, _&&_, _||_}
+use mathlib.Core.Bool.{true, false}
 use mathlib.Core.List.{List, [], _∷_}
-use mathlib.Core.Logic.{_⊎_, inl, inr}
-use Prim.Native.Nat.{ℕ, zero, suc, _+_, _-_, _^_, _≤_, _<_}
+use mathlib.Core.Logic.{inl, inr}
+use Prim.Native.Nat.{ℕ, zero, suc, _-_, _^_, _≤_, _<_}
 use native.Mathlib.Omega.{arith}
 use lib.Dec.{eqb}
 use lib.IntN.{ℤ}
 use lib.ListN.{length, getD}
 use Rattle.std.specs.declared.option.Option.{Option}
 use Rattle.std.specs.declared.option.Option.the-variants.{Some, None}
-use Rattle.std.proofs.shelf.Tests.{cases-lt, cases-bool, both-ways, and-parts, and-from, and-left, and-right, or-from, or-left, or-parts, eqb-true, eq-eqb, ne-eqb}
+use Rattle.std.proofs.shelf.Tests.{cases-lt, cases-bool, both-ways, and-parts, and-from, and-left, and-right, or-from, or-parts, eqb-true, eq-eqb, ne-eqb}
 use Rattle.terms.specs.Lists.{All}
 use Rattle.table.specs.Records.{Record, fit}
-use Rattle.table.specs.Tables.{Table}
 use Rattle.table.specs.Nexts.{Next-of, answers, any-answers, has-symbol}
 use Rattle.table.specs.Rows.{look, lawful, record-of}
 use Rattle.table.specs.declared.row.Row.{Row}

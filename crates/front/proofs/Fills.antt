@@ -10,7 +10,7 @@ use lib.ListN.{length, take, drop, length-take, take-append-drop}
 use Rattle.std.specs.Options.{isSome}
 use Rattle.std.specs.declared.option.Option.{Option}
 use Rattle.std.specs.declared.option.Option.the-variants.{Some, None}
-use Rattle.std.proofs.shelf.Tests.{cases-lt, lt-ltb, le-ltb, and-right}
+use Rattle.std.proofs.shelf.Tests.{cases-lt, lt-ltb, le-ltb}
 use Rattle.std.proofs.shelf.Lists.{take-all, length-push}
 use Rattle.std.proofs.shelf.Edits.{length-removed}
 use Rattle.table.specs.Lists.{is-none}

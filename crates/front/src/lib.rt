@@ -1,6 +1,5 @@
 // A partner table with a few rows of its own before another partner table.
 ghost use mathlib.Core.Path.{_≡_};
-ghost use Prim.Native.Nat.{_≤_};
 ghost use lib.ListN.{take};
 ghost use Rattle.front.specs.Fronts.{own-limit, front-limit, own-records, front-records, OwnFirst};
 ghost use Rattle.std.specs.Of.Vec.{vec-items};

@@ -2,7 +2,7 @@
 use mathlib.Core.Path.{_≡_, refl, sym, ap, _∙_, fun-ext, subst}
 use mathlib.Core.Bool.{Bool, true, false, cond, _&&_}
 use mathlib.Core.List.{List, [], _∷_, _++_}
-use mathlib.Core.Logic.{_⊎_, inl, inr}
+use mathlib.Core.Logic.{inl, inr}
 use Prim.Native.Nat.{ℕ, zero, suc, _+_, _≤_, _<_}
 use native.Mathlib.Omega.{arith}
 use lib.Dec.{eqb, leb, ltb}
@@ -10,13 +10,13 @@ use lib.IntN.{ℤ}
 use lib.ListN.{length, getD, take, drop}
 use Rattle.std.specs.Holes.{removed}
 use Rattle.std.specs.declared.option.Option.{Option}
-use Rattle.std.specs.declared.option.Option.the-variants.{Some, None}
+use Rattle.std.specs.declared.option.Option.the-variants.{Some}
 use Rattle.std.proofs.shelf.Lists.{take-more, at-drop-more}
-use Rattle.std.proofs.shelf.Tests.{cases-eq, eq-eqb, ne-eqb, and-parts, and-from, leb-true, ltb-true, both-ways, cond-true}
+use Rattle.std.proofs.shelf.Tests.{cases-eq, eq-eqb, ne-eqb, and-parts, and-from, leb-true, ltb-true, both-ways}
 use Rattle.terms.specs.Lists.{All}
 use Rattle.table.specs.Lists.{is-none, first}
 use Rattle.table.specs.Records.{Record, fit, all-fitting}
-use Rattle.table.specs.Tables.{Table, size, with-record, both, without}
+use Rattle.table.specs.Tables.{size, with-record, both, without}
 use Rattle.table.specs.Nexts.{Next-of, answers, lower}
 use Rattle.table.specs.Rows.{record-of, look, lawful}
 use Rattle.table.specs.declared.row.Row.{Row}

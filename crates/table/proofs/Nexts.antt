@@ -1,16 +1,15 @@
 -- The least number that passes a test, as tests are joined, and the next identifier of joined tables.
 use mathlib.Core.Path.{_≡_, refl, sym, ap, _∙_, subst}
-use mathlib.Core.Bool.{Bool, true, false, cond, _&&_, _||_}
+use mathlib.Core.Bool.{Bool, true, false, cond, _||_}
 use mathlib.Core.List.{List, [], _∷_, _++_}
-use mathlib.Core.Logic.{_⊎_, inl, inr}
-use Prim.Native.Nat.{ℕ, _≤_, _<_}
+use mathlib.Core.Logic.{inl, inr}
+use Prim.Native.Nat.{ℕ, _<_}
 use native.Mathlib.Omega.{arith}
-use lib.Dec.{eqb, leb}
+use lib.Dec.{leb}
 use lib.IntN.{ℤ}
 use Rattle.std.specs.declared.option.Option.{Option}
 use Rattle.std.specs.declared.option.Option.the-variants.{Some, None}
-use Rattle.std.proofs.shelf.Tests.{cases-eq, cases-lt, cases-bool, cond-both, leb-true, leb-false, eq-eqb, ne-eqb, or-from, or-left, or-right, both-ways}
-use Rattle.table.specs.Lists.{is-none}
+use Rattle.std.proofs.shelf.Tests.{cases-eq, cases-lt, cond-both, leb-true, leb-false, eq-eqb, ne-eqb, or-from, or-left, or-right, both-ways}
 use Rattle.terms.specs.Lists.{All}
 use Rattle.table.specs.Records.{Record, fit}
 use Rattle.table.specs.Tables.{Table, both}

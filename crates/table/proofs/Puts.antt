@@ -1,5 +1,5 @@
 -- What a put is answered, by its parts.
-use mathlib.Core.Path.{_≡_, refl, sym, ap, _∙_}
+use mathlib.Core.Path.{_≡_, refl, ap, _∙_}
 use mathlib.Core.Bool.{Bool, true, false}
 use Prim.Native.Nat.{ℕ, _≤_, _<_}
 use lib.Dec.{ltb}
@@ -8,7 +8,6 @@ use native.Mathlib.Omega.{arith}
 use Rattle.table.specs.Lists.{is-none}
 use Rattle.table.specs.Records.{Record, fit}
 use Rattle.table.specs.Tables.{Table, size, judged, put-answer}
-use Rattle.table.specs.declared.put.Put.{Put}
 use Rattle.table.specs.declared.put.Put.the-variants.{Added, Unfit, Twice, Full}
 
 pub is-unfit : (t : Table) (limit n : ℕ) (r : Record) → fit n r ≡ false → put-answer t limit n r ≡ Unfit

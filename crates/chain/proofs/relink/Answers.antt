@@ -1,6 +1,6 @@
-use mathlib.Core.Path.{_≡_, refl, sym, ap, _∙_}
+use mathlib.Core.Path.{ap, _∙_}
 use mathlib.Core.List.{map, _++_}
-use lib.ListN.{set, take, drop, getD, length}
+use lib.ListN.{set, drop}
 use native.Mathlib.Omega.{arith}
 use Rattle.std.proofs.shelf.Edits.{map-over-more}
 use Rattle.std.proofs.shelf.Lists.{take-all, drop-all, append-nil, getD-default}

@@ -1,7 +1,6 @@
-use mathlib.Core.Path.{_≡_, sym, subst}
-use Prim.Native.Nat.{_<_, _≤_}
+use mathlib.Core.Path.{sym, subst}
+use Prim.Native.Nat.{_<_}
 use native.Mathlib.Omega.{arith}
-use lib.ListN.{length}
 use Rattle.std.specs.Of.Vec.{vec-items}
 use Rattle.chain.proofs.Trails.{Trail, trail-in, trail-next, trail-stop, trail-end}
 use Rattle.chain.proofs.Walks.{left, chain-falls}

@@ -1,5 +1,4 @@
 use mathlib.Core.Path.{ap, _∙_}
-use lib.ListN.{take}
 use Rattle.table.specs.Rows.{look}
 use Rattle.table.specs.Tables.{both, nothing}
 use Rattle.front.specs.Fronts.{own-limit, own-records}

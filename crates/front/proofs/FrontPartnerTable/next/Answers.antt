@@ -1,4 +1,4 @@
-use mathlib.Core.Path.{sym, ap, subst}
+use mathlib.Core.Path.{sym, subst}
 use Rattle.std.specs.Of.Vec.{vec-items}
 use Rattle.table.specs.Nexts.{Next-of}
 use Rattle.table.specs.Rows.{look}

@@ -1,9 +1,9 @@
-use mathlib.Core.Path.{_≡_, sym, ap, _∙_}
+use mathlib.Core.Path.{sym, ap, _∙_}
 use mathlib.Core.Bool.{_&&_}
-use lib.ListN.{drop, getD}
+use lib.ListN.{drop}
 use Prim.Native.Nat.{_+_}
 use Rattle.std.proofs.shelf.Lists.{at-drop-more, at-drop-all}
-use Rattle.table.specs.Records.{all-fitting, fitting}
+use Rattle.table.specs.Records.{all-fitting}
 use Rattle.table.proofs.rows.all_fitting.Needs as need
 
 pub loop-operand-again : need.loop-operand-again

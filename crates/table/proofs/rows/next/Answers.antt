@@ -1,7 +1,5 @@
-use mathlib.Core.Path.{_≡_, sym, ap, _∙_, subst}
+use mathlib.Core.Path.{sym, _∙_, subst}
 use native.Mathlib.Omega.{arith}
-use Prim.Native.Nat.{_<_, _≤_}
-use lib.ListN.{length, take}
 use Rattle.std.proofs.shelf.Lists.{take-all, getD-read}
 use Rattle.table.specs.Nexts.{Next-of}
 use Rattle.table.specs.Rows.{look}

@@ -1,12 +1,8 @@
-use mathlib.Core.Path.{_≡_, refl, sym, ap, _∙_, subst}
-use mathlib.Core.Bool.{true, false}
+use mathlib.Core.Path.{refl, sym, _∙_, subst}
 use native.Mathlib.Omega.{arith}
-use Prim.Native.Nat.{_<_, _≤_}
 use Rattle.std.specs.Of.Vec.{vec-items}
-use Rattle.table.specs.Lists.{is-none}
-use Rattle.table.specs.Records.{recorded, fit}
+use Rattle.table.specs.Records.{recorded}
 use Rattle.table.specs.Rows.{look, Position}
-use Rattle.table.specs.Tables.{size}
 use Rattle.table.proofs.Looks.{size-look}
 use Rattle.table.proofs.Positions.{position-some, position-none, added-lawful, added-look}
 use Rattle.table.proofs.Puts.{is-twice, is-full, is-added}

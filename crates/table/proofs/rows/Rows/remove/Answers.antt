@@ -1,14 +1,12 @@
 use mathlib.Core.Path.{_≡_, refl, sym, ap, _∙_, subst}
 use native.Mathlib.Omega.{arith}
-use Prim.Native.Nat.{_<_}
-use lib.ListN.{length, getD}
 use Rattle.std.specs.Of.Vec.{vec-items}
 use Rattle.table.specs.Rows.{look, lawful, Position}
 use Rattle.table.proofs.Looks.{lawful-removed}
 use Rattle.table.proofs.Positions.{blank, taken-look}
 use Rattle.table.proofs.Tables.{without-none}
 use Rattle.table.proofs.rows.Rows.remove.Needs as need
-use Rattle.std.specs.declared.option.Option.the-variants.{Some, None}
+use Rattle.std.specs.declared.option.Option.the-variants.{Some}
 
 pub ghost-self : need.ghost-self
 ghost-self c =
