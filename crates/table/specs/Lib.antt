@@ -1,0 +1,5 @@
+pub mod Lists
+pub mod Records
+pub mod Tables
+pub mod Nexts
+pub mod Rows
