@@ -1,0 +1,4 @@
+pub mod Contents
+pub mod Ranges
+pub mod Rows
+pub mod Forests
