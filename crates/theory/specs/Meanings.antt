@@ -41,8 +41,8 @@ module _ {d : Domain} where
   Fixed m x = (x < m .made) × ((v w : Valuation d) → m .admits v → m .admits w → v x ≡ w x)
 
   -- the same variables, and the same valuations
-  abbrev pub Unaltered : Meaning d → Meaning d → Type 0
-  Unaltered m n = (n .made ≡ m .made) × ((v : Valuation d) → n .admits v ↔ m .admits v)
+  abbrev pub SameMeaning : Meaning d → Meaning d → Type 0
+  SameMeaning m n = (n .made ≡ m .made) × ((v : Valuation d) → n .admits v ↔ m .admits v)
 
   -- after p was told; a primitive that is not known alters nothing
   abbrev pub Told : Meaning d → Primitive Operand → Meaning d → Type 0

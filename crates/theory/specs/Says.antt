@@ -10,13 +10,13 @@ use Rattle.terms.specs.declared.Primitive.{Primitive}
 use Rattle.terms.specs.Domains.{Domain, Valuation}
 use Rattle.theory.specs.declared.told.Told.{Told as Answer}
 use Rattle.theory.specs.declared.told.Told.the-variants as told
-use Rattle.theory.specs.Meanings.{Meaning, KnownAll, Failed, Unaltered, Told, Made}
+use Rattle.theory.specs.Meanings.{Meaning, KnownAll, Failed, SameMeaning, Told, Made}
 
 module _ {d : Domain} where
   -- make: the next number, or a refusal exactly at capacity
   abbrev pub MakeSays : ℕ → Meaning d → Option ℕ → Meaning d → Type 0
   MakeSays capacity m (Some x) n = (x ≡ m .made) × (m .made < capacity) × Made m 1 n
-  MakeSays capacity m None n = (m .made ≡ capacity) × Unaltered m n
+  MakeSays capacity m None n = (m .made ≡ capacity) × SameMeaning m n
 
   -- tell: kept when something is left, failed when nothing is, unknown exactly when something told is not known
   abbrev pub TellSays : Meaning d → Primitive Operand → Answer → Meaning d → Type 0
