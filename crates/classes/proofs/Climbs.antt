@@ -72,14 +72,6 @@ put-same w r z i e = ap (λ b. cond b z (w i)) (eq-eqb i r e)
 pub put-other : (w : ℕ → ℤ) (r : ℕ) (z : ℤ) (i : ℕ) → (i ≡ r → ⊥) → put w r z i ≡ w i
 put-other w r z i ne = ap (λ b. cond b z (w i)) (ne-eqb i r ne)
 
-pub put-holds : (h : ℕ → ℤ → Type 0) (w : ℕ → ℤ) (r : ℕ) (z : ℤ) (n : ℕ) (p : ℕ → ℕ) → h r z →
-    ((i : ℕ) → i < n → p i ≡ i → h i (w i)) → (i : ℕ) → i < n → p i ≡ i → h i (put w r z i)
-put-holds h w r z n p hz c i l e =
-    ⊎-elim
-    (λ (q : i ≡ r). subst (λ (y : ℤ). h i y) (sym (put-same w r z i q)) (subst (λ (j : ℕ). h j z) (sym q) hz))
-    (λ (ne : i ≡ r → ⊥). subst (λ (y : ℤ). h i y) (sym (put-other w r z i ne)) (c i l e))
-    (cases-eq i r)
-
 -- two roots become one: hi has lo for its parent, and lo holds what both held
 module _ (n : ℕ) (p q : ℕ → ℕ) (h g : ℕ → ℤ → Type 0) (lo hi : ℕ) (apart : lo ≡ hi → ⊥) (in-lo : lo < n) (top : hi < n)
     (lo-root : p lo ≡ lo) (hi-root : p hi ≡ hi) (q-hi : q hi ≡ lo)

@@ -39,9 +39,6 @@ module _ {C : Type 0} (H : C → ℤ → Type 0) (a : List (ClassRow C)) (P : (�
   restricts-rooted true b d s = s .rooted
   restricts-rooted false b d s = subst (λ (l : List (ClassRow C)). Rooted l) (sym (s .kept)) d
 
-  pub nothing-left : a ≡ a → ((v : ℕ → ℤ) → P v → ⊥) → Refuted H a P a
-  nothing-left e no-p = record { kept = refl; never = λ v _ p. no-p v p }
-
   pub narrowed-by : (f : Forest C) (r : Bool) (b : List (ClassRow C)) → a ≡ vec-items (f .rows) → f .failed ≡ false → Restricts H a P r b →
       (g : Forest C) → vec-items (g .rows) ≡ b → vec-len (g .rows) ≡ vec-len (f .rows) → g .failed ≡ not r → Narrowed H f P g
   narrowed-by f true b ea ff s g gi gl gf =
@@ -70,15 +67,6 @@ module _ {C : Type 0} (H : C → ℤ → Type 0) (a : List (ClassRow C)) (P : (�
 module _ {C : Type 0} (H : C → ℤ → Type 0) (f : Forest C) where
   pub barren : f .failed ≡ true → Barren H f
   barren e v a = true≢false (sym e ∙ a .0)
-
-  pub narrowed-barren : (P : (ℕ → ℤ) → Type 0) → f .failed ≡ true → Narrowed H f P f
-  narrowed-barren P e = record { size = refl; allows = λ v. (λ a. absurd (barren e v a), λ b. b .0) }
-
-  pub narrowed-none : (P : (ℕ → ℤ) → Type 0) (g : Forest C) → vec-len (g .rows) ≡ vec-len (f .rows) → g .failed ≡ true → ((v : ℕ → ℤ) → P v → ⊥) → Narrowed H f P g
-  narrowed-none P g l e no-p = record { size = l; allows = λ v. (λ a. absurd (true≢false (sym e ∙ a .0)), λ b. absurd (no-p v (b .1))) }
-
-  pub narrowed-all : (P : (ℕ → ℤ) → Type 0) → ((v : ℕ → ℤ) → P v) → Narrowed H f P f
-  narrowed-all P p = record { size = refl; allows = λ v. (λ a. (a, p v), λ b. b .0) }
 
 -- one more row, a root that can be anything
 module _ {C : Type 0} (H : C → ℤ → Type 0) (rows : List (ClassRow C)) (r : ClassRow C) (own : r .parent ≡ length rows) (flat : r .rank ≡ 0) where

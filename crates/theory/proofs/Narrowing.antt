@@ -20,16 +20,13 @@ use Rattle.terms.specs.Domains.{TrueIn, worth}
 use Rattle.classes.specs.declared.forest.Forest.{Forest}
 use Rattle.classes.specs.Contents.{HeldIn, Holding}
 use Rattle.classes.specs.Forests.{made-in, Allows, Barren, Narrowed, Narrows, Throughout}
+use Rattle.classes.proofs.Signs.{answers-iff}
 use Rattle.theory.specs.Meanings.{Known}
 use Rattle.theory.specs.Wholes.{Truth, whole}
 
 -- a signed number, to its bits and back
 pub at-bits : (P : ℤ → Type 0) (n : ℤ) → SFits w32 n → P (toZ w32 (ofZ w32 n)) → P n
 at-bits P n f p = subst P (toZ-ofZ w32 n f) p
-
-pub answers-iff : (r : Bool) (P Q : Type 0) → (P → Q) → (Q → P) → Answers r P → Answers r Q
-answers-iff true P Q pq qp a = pq a
-answers-iff false P Q pq qp a = λ q. a (qp q)
 
 pub answered : (r : Bool) (Q : Type 0) → Answers r Q → (r ≡ true) ↔ Q
 answered true Q a = (λ _. a, λ _. refl)

@@ -9,7 +9,8 @@ use Rattle.terms.specs.declared.Operand.the-variants.{Value, Variable}
 use Rattle.theory.specs.Meanings.{Known}
 use Rattle.classes.specs.Contents.{Holding}
 use Rattle.classes.specs.Forests.{made-in}
-use Rattle.theory.proofs.Narrowing.{at-bits, answers-iff, lies, asked-equal, asked-equal-back, asked-operands}
+use Rattle.classes.proofs.Signs.{answers-iff}
+use Rattle.theory.proofs.Narrowing.{at-bits, lies, asked-equal, asked-equal-back, asked-operands}
 use Rattle.theory.proofs.classes_told.equal.Needs as need
 
 pub returns-in-Variable-Variable : need.returns-in-Variable-Variable
