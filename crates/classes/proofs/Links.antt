@@ -1,8 +1,8 @@
 -- Roots of rows, and rows whose roots are linked or narrowed.
 use mathlib.Core.Path.{_≡_, refl, sym, ap, subst, _∙_}
-use mathlib.Core.List.{List, map}
+use mathlib.Core.List.{List}
 use mathlib.Core.Logic.{_↔_, ⊎-elim}
-use Prim.Native.Nat.{ℕ, _+_, _*_, _≤_, _<_}
+use Prim.Native.Nat.{ℕ, _≤_, _<_}
 use native.Mathlib.Omega.{arith}
 use lib.IntN.{ℤ}
 use lib.ListN.{length, getD, set, length-set}
@@ -12,7 +12,7 @@ use Rattle.terms.specs.Values.{IsValue}
 use Rattle.classes.specs.declared.row.ClassRow.{ClassRow}
 use Rattle.classes.specs.Contents.{Holding}
 use Rattle.classes.specs.Rows.{parent-at, rank-at, held-at, standing-at, Rooted, RootSays, root-of, steps, Fits, Admits, Restricted, Linkable}
-use Rattle.classes.proofs.Climbs.{climb-root, root-step, root-is, root-within, climb-same, root-holds, extends, joins-to, joins-from, narrows-to, narrows-from}
+use Rattle.classes.proofs.Climbs.{climb-root, root-step, climb-same, root-holds, extends, joins-to, joins-from, narrows-to, narrows-from}
 use Rattle.classes.proofs.Fields.{field-at, field-set-same, field-set-other}
 
 pub along : {A B : Type 0} → A ≡ B → A → B

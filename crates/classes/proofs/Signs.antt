@@ -1,14 +1,13 @@
 -- Tests and what they say: of two numbers, of the bits of two signed numbers, of facts that say the same.
-use mathlib.Core.Path.{_≡_, refl, sym, ap, subst, _∙_}
+use mathlib.Core.Path.{_≡_, refl, sym, ap, _∙_}
 use mathlib.Core.Bool.{Bool, true, false}
-use mathlib.Core.Logic.{_↔_}
 use Prim.Native.Nat.{ℕ}
 use lib.Dec.{eqb}
 use lib.IntN.{ℤ}
 use mir.Syntax.{w32}
 use mir.Val.{SFits, toZ, ofZ}
 use Rattle.std.proofs.shelf.Signed.{toZ-ofZ}
-use Rattle.std.proofs.shelf.Tests.{eqb-true, eqb-false, eq-eqb}
+use Rattle.std.proofs.shelf.Tests.{eqb-true, eqb-false}
 use Rattle.terms.specs.Answers.{Answers}
 
 -- equal bits, equal numbers

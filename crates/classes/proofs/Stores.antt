@@ -1,8 +1,8 @@
 -- A forest that is narrowed, grown or asked, from what its rows admit.
-use mathlib.Core.Path.{_≡_, refl, sym, ap, subst, _∙_}
+use mathlib.Core.Path.{_≡_, sym, ap, subst, _∙_}
 use mathlib.Core.List.{List, [], _∷_, _++_}
-use mathlib.Core.Bool.{Bool, true, false, not, cond}
-use mathlib.Core.Logic.{_↔_, ⊎-elim}
+use mathlib.Core.Bool.{Bool, true, false, not}
+use mathlib.Core.Logic.{⊎-elim}
 use Prim.Native.Nat.{ℕ, _+_, _≤_, _<_}
 use native.Mathlib.Omega.{arith}
 use lib.Dec.{eqb}
@@ -22,7 +22,7 @@ use Rattle.terms.specs.Values.{IsValue}
 use Rattle.classes.specs.declared.row.ClassRow.{ClassRow}
 use Rattle.classes.specs.declared.forest.Forest.{Forest}
 use Rattle.classes.specs.Contents.{HeldIn}
-use Rattle.classes.specs.Rows.{parent-at, rank-at, held-at, standing-at, Rooted, Valued, Admits, Restricts, Refuted, Contained, SameSays}
+use Rattle.classes.specs.Rows.{parent-at, rank-at, held-at, standing-at, Rooted, Admits, Restricts, Contained, SameSays}
 use Rattle.classes.specs.Forests.{made-in, Allows, Barren, Grown, Narrowed, Throughout, LeastIs, GreatestIs, OneValue}
 use Rattle.classes.proofs.Fields.{field-low, field-last}
 use Rattle.classes.proofs.Links.{along}

@@ -8,9 +8,7 @@ use lib.Signed.{_≤ℤ_}
 use Rattle.std.specs.Of.Vec.{vec-items, vec-len}
 use Rattle.std.specs.declared.option.Option.{Option}
 use Rattle.std.specs.declared.option.Option.the-variants.{Some, None}
-use Rattle.terms.specs.Answers.{Answers}
 use Rattle.classes.specs.declared.forest.Forest.{Forest}
-use Rattle.classes.specs.Contents.{HeldIn}
 use Rattle.classes.specs.Rows.{Admits, Valued}
 
 -- how many variables are made

@@ -3,7 +3,6 @@
 ghost use mathlib.Core.Path.{_≡_};
 ghost use lib.IntN.{ℤ};
 ghost use lib.Signed.{_≤ℤ_};
-ghost use Rattle.std.specs.declared.option.Option.the-variants.{Some};
 ghost use Rattle.terms.specs.Answers.{Answers};
 ghost use Rattle.terms.specs.Values.{IsValue};
 ghost use Rattle.classes.specs.Contents.{Holding};

@@ -1,8 +1,8 @@
 -- What is told and asked of a forest, from contents to operands to primitives.
-use mathlib.Core.Path.{_≡_, refl, sym, ap, subst, _∙_}
+use mathlib.Core.Path.{_≡_, refl, sym, subst}
 use mathlib.Core.Bool.{Bool, true, false}
 use mathlib.Core.Logic.{_↔_}
-use Prim.Native.Nat.{ℕ, _<_}
+use Prim.Native.Nat.{ℕ}
 use lib.IntN.{ℤ}
 use mir.Syntax.{w32}
 use mir.Val.{SFits, toZ, ofZ}
@@ -13,7 +13,7 @@ use Rattle.std.specs.declared.option.Option.the-variants.{Some, None}
 use Rattle.terms.specs.declared.Operand.{Operand}
 use Rattle.terms.specs.declared.Operand.the-variants.{Value, Variable}
 use Rattle.terms.specs.declared.Primitive.{Primitive}
-use Rattle.terms.specs.declared.Primitive.the-variants.{Same, Least, Most}
+use Rattle.terms.specs.declared.Primitive.the-variants.{Same}
 use Rattle.terms.specs.Answers.{Answers}
 use Rattle.terms.specs.Values.{IsValue}
 use Rattle.terms.specs.Domains.{TrueIn, worth}

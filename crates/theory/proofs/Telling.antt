@@ -12,9 +12,9 @@ use Rattle.terms.specs.declared.Primitive.{Primitive}
 use Rattle.terms.specs.Domains.{Domain, Valuation, TrueIn}
 use Rattle.theory.specs.declared.told.Told.{Told as Answer}
 use Rattle.theory.specs.declared.told.Told.the-variants as told
-use Rattle.theory.specs.Meanings.{Meaning, KnownAll, SameMeaning}
+use Rattle.theory.specs.Meanings.{Meaning, KnownAll}
 use Rattle.theory.specs.Says.{TellSays}
-use Rattle.theory.specs.Runs.{SamePrimitives, ToldAll, SameInAnyOrder}
+use Rattle.theory.specs.Runs.{ToldAll, SameInAnyOrder}
 
 all-last : {X : Type 0} (P : X → Type 0) (xs : List X) (y : X) → All P (xs ++ y ∷ []) → All P xs × P y
 all-last P [] y a = (tt, a .0)

@@ -1,7 +1,5 @@
 //! Primitives told and asked of a forest of classes.
 
-ghost use mathlib.Core.Path.{_≡_};
-ghost use lib.IntN.{ℤ};
 ghost use Rattle.terms.specs.Answers.{Answers};
 ghost use Rattle.terms.specs.Domains.{TrueIn, worth};
 ghost use Rattle.terms.specs.declared.Primitive.the-variants.{Same};

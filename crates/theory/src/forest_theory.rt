@@ -1,6 +1,5 @@
 //! A forest of classes as a theory of whole numbers.
 
-ghost use Prim.Native.Nat.{ℕ};
 ghost use Rattle.theory.specs.Wholes.{whole, means-of};
 use crate::classes_told::entails;
 use crate::classes_told::restrict;

@@ -1,6 +1,5 @@
 //! What a class can hold, with what primitives say of it.
 
-ghost use lib.IntN.{ℤ};
 ghost use Rattle.terms.specs.declared.Primitive.the-variants.{Least, Most};
 ghost use Rattle.classes.specs.Contents.{Holding};
 ghost use Rattle.theory.specs.Wholes.{Truth};

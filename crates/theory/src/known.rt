@@ -1,6 +1,5 @@
 //! Which operands and primitives a theory knows.
 
-ghost use mathlib.Core.Path.{_≡_};
 ghost use Rattle.terms.specs.Answers.{Answers};
 ghost use Rattle.theory.specs.Meanings.{Known, KnownAll};
 use terms::Operand;

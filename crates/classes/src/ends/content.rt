@@ -1,9 +1,7 @@
 //! A range as what a class holds.
 
-ghost use mathlib.Core.Path.{_≡_};
 ghost use lib.IntN.{ℤ};
 ghost use lib.Signed.{_≤ℤ_};
-ghost use Rattle.terms.specs.Values.{IsValue};
 ghost use Rattle.classes.specs.Contents.{Holding};
 ghost use Rattle.classes.specs.Ranges.{EndsHold};
 use super::Ends;

@@ -1,6 +1,5 @@
 //! An optional number as what a class holds: that number, or nothing yet and so any value.
 
-ghost use mathlib.Core.Path.{_≡_};
 ghost use Rattle.classes.specs.Ranges.{NameHold, name-low, name-high};
 use super::Number;
 use crate::content::Content;

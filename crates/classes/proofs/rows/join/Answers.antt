@@ -1,4 +1,4 @@
-use mathlib.Core.Path.{_≡_, refl, sym, ap, subst, _∙_}
+use mathlib.Core.Path.{_≡_, refl, sym, ap, subst}
 use mathlib.Core.List.{List}
 use mathlib.Core.Logic.{_↔_}
 use Prim.Native.Nat.{ℕ, _≤_, _<_}
@@ -6,7 +6,7 @@ use native.Mathlib.Omega.{arith}
 use lib.IntN.{ℤ}
 use lib.ListN.{length, getD}
 use Rattle.classes.specs.declared.row.ClassRow.{ClassRow}
-use Rattle.classes.specs.Rows.{Rooted, RootSays, Linkable, held-at, standing-at}
+use Rattle.classes.specs.Rows.{Rooted, RootSays, Linkable, standing-at}
 use Rattle.classes.proofs.Links.{along, held-read, meets, root-held, restricted-iff, restricted-all, at-roots}
 use Rattle.classes.proofs.rows.join.Needs as need
 
