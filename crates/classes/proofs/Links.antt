@@ -10,7 +10,7 @@ use Rattle.std.proofs.shelf.Tests.{cases-eq}
 use Rattle.std.specs.declared.option.Option.the-variants.{Some}
 use Rattle.terms.specs.Values.{IsValue}
 use Rattle.classes.specs.declared.row.ClassRow.{ClassRow}
-use Rattle.classes.specs.Contents.{Holding}
+use Rattle.contents.specs.Contents.{Holding}
 use Rattle.classes.specs.Rows.{parent-at, rank-at, held-at, standing-at, Rooted, RootSays, root-of, steps, Fits, Admits, Restricted, Linkable}
 use Rattle.classes.proofs.Climbs.{climb-root, root-step, climb-same, root-holds, extends, joins-to, joins-from, narrows-to, narrows-from}
 use Rattle.classes.proofs.Fields.{field-at, field-set-same, field-set-other}

@@ -21,13 +21,13 @@ use Rattle.terms.specs.Answers.{Answers}
 use Rattle.terms.specs.Values.{IsValue}
 use Rattle.classes.specs.declared.row.ClassRow.{ClassRow}
 use Rattle.classes.specs.declared.forest.Forest.{Forest}
-use Rattle.classes.specs.Contents.{HeldIn}
+use Rattle.contents.specs.Contents.{HeldIn}
 use Rattle.classes.specs.Rows.{parent-at, rank-at, held-at, standing-at, Rooted, Admits, Restricts, Contained, SameSays}
 use Rattle.classes.specs.Forests.{made-in, Allows, Barren, Grown, Narrowed, Throughout, LeastIs, GreatestIs, OneValue}
 use Rattle.classes.proofs.Fields.{field-low, field-last}
 use Rattle.classes.proofs.Links.{along}
 use Rattle.classes.proofs.Reaches.{some-admitted}
-use Rattle.classes.proofs.Signs.{answers-bits}
+use Rattle.contents.proofs.Signs.{answers-bits}
 
 -- rows that were restricted
 module _ {C : Type 0} (H : C → ℤ → Type 0) (a : List (ClassRow C)) (P : (ℕ → ℤ) → Type 0) where

@@ -1,4 +1,2 @@
-pub mod Contents
-pub mod Ranges
 pub mod Rows
 pub mod Forests

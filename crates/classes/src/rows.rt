@@ -3,10 +3,10 @@
 ghost use mathlib.Core.Path.{_≡_};
 ghost use Prim.Native.Nat.{_<_};
 ghost use lib.ListN.{length};
-ghost use Rattle.classes.specs.Contents.{HeldIn};
+ghost use Rattle.contents.specs.Contents.{HeldIn};
 ghost use Rattle.classes.specs.Rows.{Rooted, RootSays, Linkable, Restricted, Restricts, Contained, SameSays, standing-at};
-use crate::content::Content;
 use crate::row::ClassRow;
+use contents::content::Content;
 
 /// The root of the class of `x`.
 pub fn root<C>(rows: &[ClassRow<C>], x: u8) -> u8

@@ -16,7 +16,7 @@ use Rattle.theory.specs.declared.told.Told.the-variants as told
 use Rattle.theory.specs.Meanings.{KnownAll, Follows, Told}
 use Rattle.theory.specs.Says.{TellSays, LeastSays, GreatestSays}
 use Rattle.theory.specs.Wholes.{Truth, whole, means-of}
-use Rattle.classes.proofs.Signs.{answers-iff}
+use Rattle.contents.proofs.Signs.{answers-iff}
 
 module _ {C : Type 0} (t : Truth) (H : C → ℤ → Type 0) (f : Forest C) where
   told-is : (g : Forest C) (p : Primitive Operand) → KnownAll (made-in f) p → Narrowed H f (λ v. TrueIn (whole t) v p) g → Told (means-of t H f) p (means-of t H g)

@@ -18,9 +18,9 @@ use Rattle.terms.specs.Answers.{Answers}
 use Rattle.terms.specs.Values.{IsValue}
 use Rattle.terms.specs.Domains.{TrueIn, worth}
 use Rattle.classes.specs.declared.forest.Forest.{Forest}
-use Rattle.classes.specs.Contents.{HeldIn, Holding}
+use Rattle.contents.specs.Contents.{HeldIn, Holding}
 use Rattle.classes.specs.Forests.{made-in, Allows, Barren, Narrowed, Narrows, Throughout}
-use Rattle.classes.proofs.Signs.{answers-iff}
+use Rattle.contents.proofs.Signs.{answers-iff}
 use Rattle.theory.specs.Meanings.{Known}
 use Rattle.theory.specs.Wholes.{Truth, whole}
 

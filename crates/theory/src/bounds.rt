@@ -2,10 +2,10 @@
 
 ghost use Rattle.theory.specs.Wholes.{in-order};
 use crate::interpreted::Interpreted;
-use classes::content::Content;
-use classes::ends::Ends;
-use classes::ends::content::EndsContent;
 use classes::forest::Forest;
+use contents::content::Content;
+use contents::ends::Ends;
+use contents::ends::content::EndsContent;
 use terms::GREATEST_VALUE;
 use terms::LEAST_VALUE;
 

@@ -3,13 +3,13 @@
 ghost use Rattle.terms.specs.Answers.{Answers};
 ghost use Rattle.terms.specs.Domains.{TrueIn, worth};
 ghost use Rattle.terms.specs.declared.Primitive.the-variants.{Same};
-ghost use Rattle.classes.specs.Contents.{HeldIn};
+ghost use Rattle.contents.specs.Contents.{HeldIn};
 ghost use Rattle.classes.specs.Forests.{made-in, Narrowed, Throughout};
 ghost use Rattle.theory.specs.Meanings.{Known, KnownAll};
 ghost use Rattle.theory.specs.Wholes.{whole};
 use crate::interpreted::Interpreted;
-use classes::content::Content;
 use classes::forest::Forest;
+use contents::content::Content;
 use terms::Operand;
 use terms::Primitive;
 

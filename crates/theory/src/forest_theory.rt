@@ -8,9 +8,9 @@ use crate::known::is_known_all;
 use crate::theory::RangedTheory;
 use crate::theory::Theory;
 use crate::told::Told;
-use classes::content::Content;
 use classes::forest::Forest;
 use classes::forest::methods::CAPACITY;
+use contents::content::Content;
 use terms::Operand;
 use terms::Primitive;
 

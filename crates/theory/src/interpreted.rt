@@ -1,9 +1,9 @@
 //! What a class can hold, with what primitives say of it.
 
 ghost use Rattle.terms.specs.declared.Primitive.the-variants.{Least, Most};
-ghost use Rattle.classes.specs.Contents.{Holding};
+ghost use Rattle.contents.specs.Contents.{Holding};
 ghost use Rattle.theory.specs.Wholes.{Truth};
-use classes::content::Content;
+use contents::content::Content;
 
 /// A content under which primitives are read as true or false of numbers.
 pub trait Interpreted: Content {

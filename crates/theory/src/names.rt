@@ -2,10 +2,10 @@
 
 ghost use Rattle.theory.specs.Wholes.{named};
 use crate::interpreted::Interpreted;
-use classes::content::Content;
 use classes::forest::Forest;
-use classes::number::Number;
-use classes::number::content::NameContent;
+use contents::content::Content;
+use contents::number::Number;
+use contents::number::content::NameContent;
 
 /// The theory of names.
 pub type Names = Forest<Option<Number>>;

@@ -4,10 +4,10 @@
 //! `failed`, `fixed X`, `range X`, `tell PRIMITIVE` or `ask PRIMITIVE`. A primitive is `same A B`, `least A N` or
 //! `most A N`, and an operand a number, or `v` with a variable's number.
 
-use classes::content::Content;
-use classes::ends::content::EndsContent;
 use classes::forest::Forest;
-use classes::number::content::NameContent;
+use contents::content::Content;
+use contents::ends::content::EndsContent;
+use contents::number::content::NameContent;
 use std::error::AnyError;
 use std::io::BufRead;
 use std::io::BufReader;

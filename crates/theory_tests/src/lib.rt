@@ -2,9 +2,9 @@
 
 #[cfg(test)]
 mod tests {
-    use classes::content::Content;
-    use classes::ends::content::EndsContent;
-    use classes::number::content::NameContent;
+    use contents::content::Content;
+    use contents::ends::content::EndsContent;
+    use contents::number::content::NameContent;
     use std::test::*;
     use terms::Operand;
     use terms::Primitive;

@@ -5,12 +5,12 @@ ghost use mathlib.Core.Bool.{true};
 ghost use Prim.Native.Nat.{_<_};
 ghost use Rattle.std.specs.Vec.{made};
 ghost use Rattle.terms.specs.Answers.{Answers};
-ghost use Rattle.classes.specs.Contents.{HeldIn};
+ghost use Rattle.contents.specs.Contents.{HeldIn};
 ghost use Rattle.classes.specs.Forests.{made-in, Barren, Fresh, Grows, Narrowed, Narrows, Throughout, LeastSays, GreatestSays, OneValue};
 use super::Forest;
-use crate::content::Content;
 use crate::row::ClassRow;
 use crate::rows;
+use contents::content::Content;
 use std::alloc::AllocError;
 use std::alloc::Global;
 

@@ -6,7 +6,7 @@ use lib.IntN.{ℤ}
 use Rattle.std.specs.declared.option.Option.{Option}
 use Rattle.std.specs.declared.option.Option.the-variants.{Some, None}
 use Rattle.classes.specs.declared.row.ClassRow.{ClassRow}
-use Rattle.classes.specs.Contents.{HeldIn}
+use Rattle.contents.specs.Contents.{HeldIn}
 use Rattle.classes.specs.Rows.{Refuted, Restricts}
 use Rattle.classes.proofs.rows.confine.Needs as need
 

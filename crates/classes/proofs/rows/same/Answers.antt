@@ -4,7 +4,7 @@ use lib.ListN.{getD}
 use mir.Syntax.{w32}
 use mir.Val.{SFits, ofZ}
 use borrow.Author.Needs.{needs}
-use Rattle.classes.proofs.Signs.{same-bits}
+use Rattle.contents.proofs.Signs.{same-bits}
 use Rattle.classes.proofs.Links.{at-roots}
 use Rattle.classes.proofs.Reaches.{differ, agree}
 use Rattle.classes.proofs.rows.same.Needs as need

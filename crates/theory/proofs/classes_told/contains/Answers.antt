@@ -1,7 +1,7 @@
 use mathlib.Core.Path.{_≡_}
 use lib.IntN.{ℤ}
 use Rattle.std.specs.declared.option.Option.the-variants.{Some, None}
-use Rattle.classes.specs.Contents.{Holding}
+use Rattle.contents.specs.Contents.{Holding}
 use Rattle.theory.proofs.Narrowing.{at-bits, within-says, held-by-none}
 use Rattle.theory.proofs.classes_told.contains.Needs as need
 

@@ -6,9 +6,9 @@ use borrow.Author.Needs.{needs}
 use Rattle.terms.specs.declared.Operand.{Operand}
 use Rattle.terms.specs.declared.Operand.the-variants.{Value, Variable}
 use Rattle.theory.specs.Meanings.{Known}
-use Rattle.classes.specs.Contents.{Holding}
+use Rattle.contents.specs.Contents.{Holding}
 use Rattle.classes.specs.Forests.{made-in}
-use Rattle.classes.proofs.Signs.{answers-iff}
+use Rattle.contents.proofs.Signs.{answers-iff}
 use Rattle.theory.proofs.Narrowing.{at-bits, lies, asked-equal, asked-equal-back, asked-operands}
 use Rattle.theory.proofs.classes_told.equal.Needs as need
 

@@ -6,7 +6,7 @@ use borrow.Author.Needs.{needs}
 use Rattle.terms.specs.declared.Operand.{Operand}
 use Rattle.terms.specs.declared.Operand.the-variants.{Value, Variable}
 use Rattle.theory.specs.Meanings.{Known}
-use Rattle.classes.specs.Contents.{Holding}
+use Rattle.contents.specs.Contents.{Holding}
 use Rattle.classes.specs.Forests.{made-in}
 use Rattle.theory.proofs.Narrowing.{at-bits, not-refused, imposed, told-equal, told-equal-back, narrowed-operands}
 use Rattle.theory.proofs.classes_told.equate.Needs as need

@@ -6,7 +6,7 @@ use borrow.Author.Needs.{needs}
 use Rattle.terms.specs.declared.Operand.{Operand}
 use Rattle.theory.specs.Meanings.{Known}
 use Rattle.terms.specs.Answers.{Answers}
-use Rattle.classes.specs.Contents.{HeldIn}
+use Rattle.contents.specs.Contents.{HeldIn}
 use Rattle.classes.specs.Forests.{made-in}
 use Rattle.theory.proofs.Narrowing.{at-bits, answered, narrowed-iff, imposed-at, not-refused}
 use Rattle.theory.proofs.classes_told.impose.Needs as need

@@ -8,7 +8,7 @@ use Rattle.terms.specs.declared.Operand.{Operand}
 use Rattle.theory.specs.Meanings.{Known}
 use Rattle.terms.specs.Answers.{Answers}
 use Rattle.terms.specs.Domains.{worth}
-use Rattle.classes.specs.Contents.{HeldIn}
+use Rattle.contents.specs.Contents.{HeldIn}
 use Rattle.classes.specs.Forests.{made-in, Throughout}
 use Rattle.theory.specs.Wholes.{whole}
 use Rattle.theory.proofs.Narrowing.{at-bits, lies-at, of-made, throughout-barren, throughout-fixed}

@@ -6,7 +6,7 @@ use borrow.Author.Needs.{needs}
 use Rattle.terms.specs.declared.Operand.{Operand}
 use Rattle.terms.specs.declared.Primitive.{Primitive}
 use Rattle.terms.specs.declared.Primitive.the-variants.{Least, Most}
-use Rattle.classes.specs.Contents.{Holding}
+use Rattle.contents.specs.Contents.{Holding}
 use Rattle.classes.specs.Forests.{made-in}
 use Rattle.theory.specs.Meanings.{KnownAll}
 use Rattle.theory.proofs.Narrowing.{at-bits, imposed, narrowed-arm}

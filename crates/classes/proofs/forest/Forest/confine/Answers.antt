@@ -5,7 +5,7 @@ use native.Mathlib.Omega.{arith}
 use lib.IntN.{ℤ}
 use Rattle.std.proofs.shelf.Lists.{refilled-is}
 use Rattle.classes.specs.declared.row.ClassRow.{ClassRow}
-use Rattle.classes.specs.Contents.{HeldIn}
+use Rattle.contents.specs.Contents.{HeldIn}
 use Rattle.classes.specs.Rows.{Rooted}
 use Rattle.classes.proofs.Stores.{restricts-size, restricts-rooted, narrowed-by}
 use Rattle.classes.proofs.forest.Forest.confine.Needs as need

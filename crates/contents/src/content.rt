@@ -5,7 +5,7 @@ ghost use lib.IntN.{ℤ};
 ghost use lib.Signed.{_≤ℤ_};
 ghost use Rattle.terms.specs.Answers.{Answers};
 ghost use Rattle.terms.specs.Values.{IsValue};
-ghost use Rattle.classes.specs.Contents.{Holding};
+ghost use Rattle.contents.specs.Contents.{Holding};
 
 /// A set of values that is not empty, and whose meeting with another is defined.
 pub trait Content: Copy {

@@ -1,6 +1,6 @@
 //! An optional number as what a class holds: that number, or nothing yet and so any value.
 
-ghost use Rattle.classes.specs.Ranges.{NameHold, name-low, name-high};
+ghost use Rattle.contents.specs.Ranges.{NameHold, name-low, name-high};
 use super::Number;
 use crate::content::Content;
 use terms::GREATEST_VALUE;

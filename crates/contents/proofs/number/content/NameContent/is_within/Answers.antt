@@ -1,8 +1,8 @@
 use mir.Syntax.{w32}
 use mir.Val.{SFits}
 use borrow.Author.Needs.{needs}
-use Rattle.classes.proofs.Names.{not-all, numbers-within}
-use Rattle.classes.proofs.number.content.NameContent.is_within.Needs as need
+use Rattle.contents.proofs.Names.{not-all, numbers-within}
+use Rattle.contents.proofs.number.content.NameContent.is_within.Needs as need
 
 pub returns-in-rest-self : need.returns-in-rest-self
 returns-in-rest-self c = not-all (c .args .self) (c .args .other) (c .in-Some .two) (c .in-rest-self .is) (c .in-Some .is)

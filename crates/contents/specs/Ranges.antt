@@ -5,8 +5,8 @@ use lib.Signed.{_≤ℤ_}
 use Rattle.std.specs.declared.option.Option.{Option}
 use Rattle.std.specs.declared.option.Option.the-variants.{Some, None}
 use Rattle.terms.specs.Values.{IsValue}
-use Rattle.classes.specs.declared.ends.Ends.{Ends}
-use Rattle.classes.specs.declared.number.Number.{Number}
+use Rattle.contents.specs.declared.ends.Ends.{Ends}
+use Rattle.contents.specs.declared.number.Number.{Number}
 
 -- a range holds what lies between its ends
 abbrev pub EndsHold : Ends → ℤ → Type 0

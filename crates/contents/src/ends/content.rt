@@ -2,8 +2,8 @@
 
 ghost use lib.IntN.{ℤ};
 ghost use lib.Signed.{_≤ℤ_};
-ghost use Rattle.classes.specs.Contents.{Holding};
-ghost use Rattle.classes.specs.Ranges.{EndsHold};
+ghost use Rattle.contents.specs.Contents.{Holding};
+ghost use Rattle.contents.specs.Ranges.{EndsHold};
 use super::Ends;
 use crate::content::Content;
 use terms::GREATEST_VALUE;

@@ -9,9 +9,9 @@ use Rattle.std.proofs.shelf.Signed.{ints}
 use Rattle.std.specs.declared.option.Option.{Option}
 use Rattle.std.specs.declared.option.Option.the-variants.{Some, None}
 use Rattle.terms.specs.Answers.{Answers}
-use Rattle.classes.specs.declared.number.Number.{Number}
-use Rattle.classes.specs.Ranges.{NameHold}
-use Rattle.classes.proofs.Signs.{answers-bits}
+use Rattle.contents.specs.declared.number.Number.{Number}
+use Rattle.contents.specs.Ranges.{NameHold}
+use Rattle.contents.proofs.Signs.{answers-bits}
 
 -- a number is not every value
 pub not-all : (a b : Option Number) (n : Number) → a ≡ None → b ≡ Some n → ((z : ℤ) → NameHold a z → NameHold b z) → ⊥
