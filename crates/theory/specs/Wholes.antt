@@ -35,24 +35,28 @@ InOrder (Same a b) = a ≡ b
 InOrder (Least a n) = n ≤ℤ a
 InOrder (Most a n) = a ≤ℤ n
 
+-- an order of two numbers is decided, by its test
 order-decided : (b : Bool) (m n : ℤ) → leZ m n ≡ b → Dec (m ≤ℤ n)
 order-decided true m n e = yes (record { le = subst T (sym e) tt })
 order-decided false m n e = no (λ l. subst T e (l .le))
 
--- both are decided
+-- what is true in names is decided
 pub named-decided : (p : Primitive ℤ) → Dec (Named p)
 named-decided (Same a b) = ℤ-discrete a b
 named-decided (Least a n) = no (λ e. e)
 named-decided (Most a n) = no (λ e. e)
 
+-- and what is true in bounds
 pub in-order-decided : (p : Primitive ℤ) → Dec (InOrder p)
 in-order-decided (Same a b) = ℤ-discrete a b
 in-order-decided (Least a n) = order-decided (leZ n a) n a refl
 in-order-decided (Most a n) = order-decided (leZ a n) a n refl
 
+-- the truth of names
 abbrev pub named : Truth
 named = record { True = Named; same = λ a b. (λ e. e, λ e. e); decided = named-decided }
 
+-- the truth of bounds
 abbrev pub in-order : Truth
 in-order = record { True = InOrder; same = λ a b. (λ e. e, λ e. e); decided = in-order-decided }
 

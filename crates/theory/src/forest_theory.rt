@@ -3,10 +3,10 @@
 ghost use Rattle.theory.specs.Wholes.{whole, means-of};
 use crate::classes_told::entails;
 use crate::classes_told::restrict;
+use crate::interface::RangedTheory;
+use crate::interface::Theory;
 use crate::interpreted::Interpreted;
 use crate::known::is_known_all;
-use crate::theory::RangedTheory;
-use crate::theory::Theory;
 use crate::told::Told;
 use classes::forest::Forest;
 use classes::forest::methods::CAPACITY;

@@ -3,9 +3,9 @@
 pub mod bounds;
 mod classes_told;
 pub mod forest_theory;
+pub mod interface;
 pub mod interpreted;
 pub mod known;
 pub mod names;
-pub mod theory;
 pub mod told;
 pub mod uses;

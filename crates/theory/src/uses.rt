@@ -4,7 +4,7 @@ ghost use mathlib.Core.Path.{_≡_};
 ghost use mathlib.Core.Bool.{true};
 ghost use Rattle.theory.specs.Runs.{ToldAll, SameInAnyOrder};
 ghost use Rattle.theory.specs.Says.{TellSays};
-use crate::theory::Theory;
+use crate::interface::Theory;
 use crate::told::Told;
 use terms::Operand;
 use terms::Primitive;

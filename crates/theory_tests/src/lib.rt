@@ -12,11 +12,11 @@ mod tests {
     use theory::bounds::EndsInterpreted;
     use theory::forest_theory::ForestRangedTheory;
     use theory::forest_theory::ForestTheory;
+    use theory::interface::RangedTheory;
+    use theory::interface::Theory;
     use theory::interpreted::Interpreted;
     use theory::names::NameInterpreted;
     use theory::names::Names;
-    use theory::theory::RangedTheory;
-    use theory::theory::Theory;
     use theory::told::Told;
     use theory::told::ToldDebug;
     use theory::told::ToldPartialEq;

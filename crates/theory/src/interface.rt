@@ -22,6 +22,7 @@ pub trait Theory {
     /// How many variables can be made.
     ghost capacity: { ℕ };
 
+    /// The capacity is 1 to 256 and never passed; what is admitted is proper, and depends on made variables only.
     law lawful: { Lawful means capacity };
 
     /// How many variables can be made.
