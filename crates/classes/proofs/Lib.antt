@@ -1,0 +1,5 @@
+pub mod Climbs
+pub mod Fields
+pub mod Links
+pub mod Reaches
+pub mod Stores

@@ -1,0 +1,3 @@
+pub mod Narrowing
+pub mod Answering
+pub mod Telling

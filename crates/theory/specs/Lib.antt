@@ -1,0 +1,4 @@
+pub mod Meanings
+pub mod Says
+pub mod Runs
+pub mod Wholes
