@@ -9,7 +9,7 @@ use crate::row::ClassRow;
 use contents::content::Content;
 
 /// The root of the class of `x`.
-pub fn root<C>(rows: &[ClassRow<C>], x: u8) -> u8
+pub(crate) fn root<C>(rows: &[ClassRow<C>], x: u8) -> u8
     requires rooted { ⌜ Rooted (now rows) ⌝ }
     requires within { ⌜ x < length (now rows) ⌝ }
     ensures { λ r. ⌜ RootSays (now (rows .entry)) x r ⌝ }
@@ -45,7 +45,7 @@ fn link<C: Content>(rows: &mut [ClassRow<C>], lower: u8, upper: u8, content: C)
 }
 
 /// Makes the classes of `a` and `b` one, with what both held; `false`, and no change, where that is nothing.
-pub fn join<C: Content>(rows: &mut [ClassRow<C>], a: u8, b: u8) -> bool
+pub(crate) fn join<C: Content>(rows: &mut [ClassRow<C>], a: u8, b: u8) -> bool
     requires rooted { ⌜ Rooted (now rows) ⌝ }
     requires first { ⌜ a < length (now rows) ⌝ }
     requires second { ⌜ b < length (now rows) ⌝ }
@@ -70,7 +70,7 @@ pub fn join<C: Content>(rows: &mut [ClassRow<C>], a: u8, b: u8) -> bool
 }
 
 /// Has the class of `x` hold only what `by` holds too; `false`, and no change, where that is nothing.
-pub fn narrow<C: Content>(rows: &mut [ClassRow<C>], x: u8, by: C) -> bool
+pub(crate) fn narrow<C: Content>(rows: &mut [ClassRow<C>], x: u8, by: C) -> bool
     requires rooted { ⌜ Rooted (now rows) ⌝ }
     requires within { ⌜ x < length (now rows) ⌝ }
     ensures { λ r. ⌜ Restricts (C·Content .holds) (now (rows .entry)) (λ v. C·Content .holds by (v x)) r (now (rows .exit)) ⌝ }
@@ -84,7 +84,7 @@ pub fn narrow<C: Content>(rows: &mut [ClassRow<C>], x: u8, by: C) -> bool
 }
 
 /// The same for an optional content, where none leaves nothing.
-pub fn confine<C: Content>(rows: &mut [ClassRow<C>], x: u8, by: Option<C>) -> bool
+pub(crate) fn confine<C: Content>(rows: &mut [ClassRow<C>], x: u8, by: Option<C>) -> bool
     requires rooted { ⌜ Rooted (now rows) ⌝ }
     requires within { ⌜ x < length (now rows) ⌝ }
     ensures { λ r. ⌜ Restricts (C·Content .holds) (now (rows .entry)) (λ v. HeldIn (C·Content .holds) by (v x)) r (now (rows .exit)) ⌝ }
@@ -96,7 +96,7 @@ pub fn confine<C: Content>(rows: &mut [ClassRow<C>], x: u8, by: Option<C>) -> bo
 }
 
 /// What the class of `x` holds.
-pub fn held<C: Content>(rows: &[ClassRow<C>], x: u8) -> C
+pub(crate) fn held<C: Content>(rows: &[ClassRow<C>], x: u8) -> C
     requires rooted { ⌜ Rooted (now rows) ⌝ }
     requires within { ⌜ x < length (now rows) ⌝ }
     ensures { λ r. ⌜ Contained (C·Content .holds) (now (rows .entry)) x r ⌝ }
@@ -105,7 +105,7 @@ pub fn held<C: Content>(rows: &[ClassRow<C>], x: u8) -> C
 }
 
 /// Whether `a` and `b` are equal in every valuation.
-pub fn same<C: Content>(rows: &[ClassRow<C>], a: u8, b: u8) -> bool
+pub(crate) fn same<C: Content>(rows: &[ClassRow<C>], a: u8, b: u8) -> bool
     requires rooted { ⌜ Rooted (now rows) ⌝ }
     requires first { ⌜ a < length (now rows) ⌝ }
     requires second { ⌜ b < length (now rows) ⌝ }

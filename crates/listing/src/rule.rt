@@ -103,7 +103,7 @@ fn show_body<W: fmt::Write>(body: &[Item], f: &mut fmt::Formatter<W>) -> fmt::Re
 }
 
 /// A rule by its number.
-pub fn show_rule<W: fmt::Write>(
+pub(crate) fn show_rule<W: fmt::Write>(
     signature: Signature<'_>,
     number: usize,
     rule: &Rule,

@@ -20,7 +20,7 @@ pub trait Source {
 }
 
 /// Parts with a comma and a space between each two.
-pub fn show_separated<S: Source, W: fmt::Write>(
+pub(crate) fn show_separated<S: Source, W: fmt::Write>(
     parts: &[S],
     f: &mut fmt::Formatter<W>,
 ) -> fmt::Result
@@ -34,7 +34,7 @@ pub fn show_separated<S: Source, W: fmt::Write>(
 }
 
 /// A comma and a space before every part but the first, the part 0.
-pub fn show_comma<W: fmt::Write>(part: usize, f: &mut fmt::Formatter<W>) -> fmt::Result
+pub(crate) fn show_comma<W: fmt::Write>(part: usize, f: &mut fmt::Formatter<W>) -> fmt::Result
     ensures { λ r. ⌜ Prints (W·Write .took) (now (f .entry)) r (comma-before part) (now (f .exit)) ⌝ }
 {
     f.write_str(if part == 0 { "" } else { ", " })
@@ -101,7 +101,7 @@ fn show_arguments<W: fmt::Write>(arguments: &[Term], f: &mut fmt::Formatter<W>) 
 }
 
 /// A constraint: its symbol and its arguments.
-pub fn show_constraint<W: fmt::Write>(
+pub(crate) fn show_constraint<W: fmt::Write>(
     symbol: u8,
     arguments: &[Term],
     f: &mut fmt::Formatter<W>,

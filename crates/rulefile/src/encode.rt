@@ -23,7 +23,10 @@ pub trait Encode {
 }
 
 /// Parts in a row.
-pub fn encode_each<E: Encode>(parts: &[E], writer: &mut Writer<'_>) -> Result<(), WriteRefusal>
+pub(crate) fn encode_each<E: Encode>(
+    parts: &[E],
+    writer: &mut Writer<'_>,
+) -> Result<(), WriteRefusal>
     requires { ⌜ All (E·Encode .fit) (now parts) ⌝ }
     ensures same { λ _. ⌜ name (now (writer .exit) .dst) ≡ name (now (writer .entry) .dst) ⌝ }
     ensures wrote { λ r. ⌜ Writes (each (E·Encode .encoding) (now (parts .entry))) (now (writer .entry)) r (now (writer .exit)) ⌝ }
@@ -35,7 +38,10 @@ pub fn encode_each<E: Encode>(parts: &[E], writer: &mut Writer<'_>) -> Result<()
 }
 
 /// How many parts there are, and then each.
-pub fn encode_counted<E: Encode>(parts: &[E], writer: &mut Writer<'_>) -> Result<(), WriteRefusal>
+pub(crate) fn encode_counted<E: Encode>(
+    parts: &[E],
+    writer: &mut Writer<'_>,
+) -> Result<(), WriteRefusal>
     requires few { ⌜ length (now parts) ≤ 32 ⌝ }
     requires fits { ⌜ All (E·Encode .fit) (now parts) ⌝ }
     ensures same { λ _. ⌜ name (now (writer .exit) .dst) ≡ name (now (writer .entry) .dst) ⌝ }

@@ -25,7 +25,7 @@ pub trait Production {
 }
 
 /// `count` parts in a row.
-pub fn parts<P: Production>(
+pub(crate) fn parts<P: Production>(
     production: &P,
     reader: &mut Reader<'_>,
     heap: Global,
@@ -42,7 +42,7 @@ pub fn parts<P: Production>(
 }
 
 /// A count from `low` to `high`, and so many parts.
-pub fn list<P: Production>(
+pub(crate) fn list<P: Production>(
     production: &P,
     reader: &mut Reader<'_>,
     heap: Global,

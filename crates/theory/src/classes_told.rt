@@ -79,7 +79,7 @@ fn equal<C: Interpreted>(forest: &Forest<C>, a: Operand, b: Operand) -> bool
 }
 
 /// Leaves the valuations in which `p` is true.
-pub fn restrict<C: Interpreted>(forest: &mut Forest<C>, p: Primitive<Operand>)
+pub(crate) fn restrict<C: Interpreted>(forest: &mut Forest<C>, p: Primitive<Operand>)
     requires { ⌜ KnownAll (made-in (now forest)) p ⌝ }
     ensures { λ _. ⌜ Narrowed (C·Content .holds) (now (forest .entry)) (λ v. TrueIn (whole (C·Interpreted .truth)) v p) (now (forest .exit)) ⌝ }
 {
@@ -91,7 +91,7 @@ pub fn restrict<C: Interpreted>(forest: &mut Forest<C>, p: Primitive<Operand>)
 }
 
 /// Whether `p` is true in every valuation.
-pub fn entails<C: Interpreted>(forest: &Forest<C>, p: Primitive<Operand>) -> bool
+pub(crate) fn entails<C: Interpreted>(forest: &Forest<C>, p: Primitive<Operand>) -> bool
     requires { ⌜ KnownAll (made-in (now forest)) p ⌝ }
     ensures { λ r. ⌜ Answers r (Throughout (C·Content .holds) (now (forest .entry)) (λ v. TrueIn (whole (C·Interpreted .truth)) v p)) ⌝ }
 {

@@ -10,7 +10,7 @@ use crate::writer::Writer;
 use rules::value_code;
 
 impl Writer<'_> {
-    pub fn byte(&mut self, b: u8) -> Result<(), WriteRefusal>
+    pub(crate) fn byte(&mut self, b: u8) -> Result<(), WriteRefusal>
         ensures same { λ _. ⌜ name (now (self .exit) .dst) ≡ name (now (self .entry) .dst) ⌝ }
         ensures wrote { λ r. ⌜ Writes (one b) (now (self .entry)) r (now (self .exit)) ⌝ }
     {
@@ -22,7 +22,7 @@ impl Writer<'_> {
         Ok(())
     }
 
-    pub fn number(&mut self, n: u32) -> Result<(), WriteRefusal>
+    pub(crate) fn number(&mut self, n: u32) -> Result<(), WriteRefusal>
         requires { ⌜ n < 2_097_152 ⌝ }
         ensures same { λ _. ⌜ name (now (self .exit) .dst) ≡ name (now (self .entry) .dst) ⌝ }
         ensures wrote { λ r. ⌜ Writes (number-bytes n) (now (self .entry)) r (now (self .exit)) ⌝ }
@@ -38,7 +38,7 @@ impl Writer<'_> {
         self.byte((n / 16_384) as u8)
     }
 
-    pub fn value(&mut self, value: i32) -> Result<(), WriteRefusal>
+    pub(crate) fn value(&mut self, value: i32) -> Result<(), WriteRefusal>
         requires { ⌜ IsValue value ⌝ }
         ensures same { λ _. ⌜ name (now (self .exit) .dst) ≡ name (now (self .entry) .dst) ⌝ }
         ensures wrote { λ r. ⌜ Writes (value-bytes value) (now (self .entry)) r (now (self .exit)) ⌝ }

@@ -7,7 +7,7 @@ use crate::reader::Reader;
 
 impl<'a> Reader<'a> {
     /// A reader that has passed the four bytes at the start of a file.
-    pub fn after_mark(src: &'a [u8]) -> Reader<'a>
+    pub(crate) fn after_mark(src: &'a [u8]) -> Reader<'a>
         requires { ⌜ 4 ≤ length (now src) ⌝ }
         ensures place { λ r. ⌜ r .pos ≡ 4 ⌝ }
         ensures bytes { λ r. ⌜ now (r .src) ≡ now (src .entry) ⌝ }
@@ -16,7 +16,7 @@ impl<'a> Reader<'a> {
     }
 
     /// The offset of the first byte that is left over, or none.
-    pub fn place_left(&self) -> Option<usize>
+    pub(crate) fn place_left(&self) -> Option<usize>
         ensures { λ r. ⌜ At-end (now (self .entry)) r ⌝ }
     {
         if self.pos < self.src.len() {

@@ -21,7 +21,7 @@ impl Reader<'_> {
         Ok(b)
     }
 
-    pub fn number(&mut self) -> Result<u32, LoadRefusal>
+    pub(crate) fn number(&mut self) -> Result<u32, LoadRefusal>
         ensures below { λ r. ⌜ made r (λ n. n < 2_097_152) ⌝ }
         ensures reads { λ r. ⌜ Reads number (now (self .entry)) r (now (self .exit)) ⌝ }
     {
@@ -45,7 +45,7 @@ impl Reader<'_> {
     }
 
     /// A count, a kind or a value's code, from `low` to `high`.
-    pub fn ranged(&mut self, low: u32, high: u32) -> Result<u32, LoadRefusal>
+    pub(crate) fn ranged(&mut self, low: u32, high: u32) -> Result<u32, LoadRefusal>
         ensures inside { λ r. ⌜ made r (λ n. (low ≤ n) × (n ≤ high)) ⌝ }
         ensures reads { λ r. ⌜ Reads (ranged low high) (now (self .entry)) r (now (self .exit)) ⌝ }
     {
@@ -58,7 +58,7 @@ impl Reader<'_> {
     }
 
     /// The number of one of `count` symbols or slots, from 0.
-    pub fn index(&mut self, count: u8) -> Result<u8, LoadRefusal>
+    pub(crate) fn index(&mut self, count: u8) -> Result<u8, LoadRefusal>
         ensures below { λ r. ⌜ made r (λ n. n < count) ⌝ }
         ensures reads { λ r. ⌜ Reads (index count) (now (self .entry)) r (now (self .exit)) ⌝ }
     {
@@ -77,7 +77,7 @@ impl Reader<'_> {
         Ok(code_value(code))
     }
 
-    pub fn term(&mut self, slots: u8) -> Result<Term, LoadRefusal>
+    pub(crate) fn term(&mut self, slots: u8) -> Result<Term, LoadRefusal>
         ensures { λ r. ⌜ Reads (term slots) (now (self .entry)) r (now (self .exit)) ⌝ }
     {
         if self.ranged(0, 1)? == 0 {
@@ -88,7 +88,7 @@ impl Reader<'_> {
     }
 
     /// A primitive, whose kind is read already.
-    pub fn primitive(&mut self, kind: u32, slots: u8) -> Result<Primitive<Term>, LoadRefusal>
+    pub(crate) fn primitive(&mut self, kind: u32, slots: u8) -> Result<Primitive<Term>, LoadRefusal>
         ensures { λ r. ⌜ Reads (primitive slots kind) (now (self .entry)) r (now (self .exit)) ⌝ }
     {
         let left = self.term(slots)?;
@@ -104,7 +104,7 @@ impl Reader<'_> {
         }
     }
 
-    pub fn guard(&mut self, slots: u8) -> Result<Primitive<Term>, LoadRefusal>
+    pub(crate) fn guard(&mut self, slots: u8) -> Result<Primitive<Term>, LoadRefusal>
         ensures { λ r. ⌜ Reads (guard slots) (now (self .entry)) r (now (self .exit)) ⌝ }
     {
         let kind = self.ranged(0, 2)?;
@@ -112,7 +112,7 @@ impl Reader<'_> {
     }
 
     /// How many heads are kept, and how many removed.
-    pub fn head_counts(&mut self) -> Result<(u8, u8), LoadRefusal>
+    pub(crate) fn head_counts(&mut self) -> Result<(u8, u8), LoadRefusal>
         ensures few { λ r. ⌜ made r (λ p. p .0 + p .1 ≤ 3) ⌝ }
         ensures reads { λ r. ⌜ Reads head-counts (now (self .entry)) r (now (self .exit)) ⌝ }
     {
