@@ -32,7 +32,7 @@ use Rattle.machine.proofs.Unique.{none-some, some-inj, Split, split-one, over-
 use Rattle.machine.proofs.Stepping.{one-step, same-theory}
 
 -- how a step ends a run, if it does
-abbrev ending : StepAnswer → Option End
+abbrev pub ending : StepAnswer → Option End
 ending sheet.failed = Some ended.Failed
 ending sheet.done = Some ended.Done
 ending sheet.told = None
@@ -67,11 +67,11 @@ module _ {A B : Type 0} (T : Theory.Ghosts A) (P : PartnerTable.Ghosts B) where
   Resting s es e t = (es ≡ []) × (s ≡ t) × Split (Failed (meaning T s)) (Stands T s) (e ≡ ended.Failed) (Split (s .waiting ≡ []) (s .waiting ≡ [] → ⊥) (e ≡ ended.Done) (e ≡ ended.Stopped))
 
   -- what follows a step that ends the run, or does not
-  abbrev Tail : ℕ → Config A B → StepAnswer → Config A B → List Event → End → Config A B → Option End → Type 0
+  abbrev pub Tail : ℕ → Config A B → StepAnswer → Config A B → List Event → End → Config A B → Option End → Type 0
   Tail n s a v es e t None = (more : List Event) × (es ≡ stepped a (telling (s .waiting) a) ∷ more) × Run-says T P n v more e t
   Tail n s a v es e t (Some x) = (es ≡ []) × (s ≡ t) × (e ≡ x)
 
-  abbrev Leading : ℕ → Config A B → List Event → End → Config A B → Type 0
+  abbrev pub Leading : ℕ → Config A B → List Event → End → Config A B → Type 0
   Leading n s es e t = (a : StepAnswer) × (v : Config A B) × Step-says T P s a v × Tail n s a v es e t (ending a)
 
   resting : (s t : Config A B) (es : List Event) (e : End) → Run-says T P 0 s es e t → Resting s es e t
@@ -79,7 +79,7 @@ module _ {A B : Type 0} (T : Theory.Ghosts A) (P : PartnerTable.Ghosts B) where
   resting s t es e (ref.run-done st w) = (refl, refl, inr (st, inl (w, refl)))
   resting s t es e (ref.run-stopped st w) = (refl, refl, inr (st, inr (w, refl)))
 
-  leading : (n : ℕ) (s t : Config A B) (es : List Event) (e : End) → Run-says T P (suc n) s es e t → Leading n s es e t
+  pub leading : (n : ℕ) (s t : Config A B) (es : List Event) (e : End) → Run-says T P (suc n) s es e t → Leading n s es e t
   leading n s t es e (ref.run-failed f) = (sheet.failed, s, ref.fails f, (refl, refl, refl))
   leading n s t es e (ref.run-done st w) = (sheet.done, s, ref.ends st w, (refl, refl, refl))
   leading n s t es e (ref.run-full l x) = (sheet.full l, s, x, (refl, refl, refl))

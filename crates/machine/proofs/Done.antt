@@ -19,7 +19,7 @@ use Rattle.machine.specs.Statements.{DoneIsExact}
 other : {A B : Type 0} (a : StepAnswer) (s : Config A B) (Q : Type 0) (e : Entry) (rest : List Entry) → (a ≡ sheet.done → ⊥) → s .waiting ≡ e ∷ rest → (a ≡ sheet.done) ↔ ((s .waiting ≡ []) × Q)
 other a s Q e rest n top = (λ q. absurd (n q), λ z. absurd (cons≢nil (sym top ∙ z .0)))
 
-full-not : (l : Limit) → sheet.full l ≡ sheet.done → ⊥
+pub full-not : (l : Limit) → sheet.full l ≡ sheet.done → ⊥
 full-not l e = let z : _≡_ {A = ℕ} 0 1 = cc in omega arith
 
 applied-not : (k : ℕ) (is : List ℕ) → sheet.applied k is ≡ sheet.done → ⊥

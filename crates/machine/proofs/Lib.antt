@@ -6,3 +6,5 @@ pub mod Done
 pub mod Unique
 pub mod Stepping
 pub mod Calling
+pub mod Known
+pub mod Samples

@@ -25,7 +25,7 @@ use Rattle.machine.proofs.Meanings.{same-back, same-then, told-same, made-same
 use Rattle.machine.proofs.Unique.{Change, kept, told-one, made-some, Outcome, Fit, FirstOf, Tries, Item, Decided, decided-same, decided-one, stay, only, Split}
 
 -- how the theory changes
-abbrev Changed : {d : Domain} → Meaning d → Change → Meaning d → Type 0
+abbrev pub Changed : {d : Domain} → Meaning d → Change → Meaning d → Type 0
 Changed m kept n = SameMeaning m n
 Changed m (told-one p) n = Told m p n
 Changed m (made-some k) n = Made m k n
@@ -37,23 +37,23 @@ changed-same m n m′ n′ (made-some k) e a b = made-same m n m′ n′ k e a b
 
 module _ {A B : Type 0} (T : Theory.Ghosts A) (P : PartnerTable.Ghosts B) where
   -- the step was answered and left what the outcome says
-  record Fulfils (s : Config A B) (o : Outcome) (a : StepAnswer) (t : Config A B) : Type 0 where
-    answer : a ≡ o .0
-    book : t .book ≡ s .book
-    waiting : t .waiting ≡ o .1
-    history : t .history ≡ o .2
-    posted : t .posted ≡ s .posted
-    next : t .next ≡ o .3
-    theory : Changed (meaning T s) (o .4) (meaning T t)
-    table : P .records (t .table) ≡ o .5
+  pub record Fulfils (s : Config A B) (o : Outcome) (a : StepAnswer) (t : Config A B) : Type 0 where
+    pub answer : a ≡ o .0
+    pub book : t .book ≡ s .book
+    pub waiting : t .waiting ≡ o .1
+    pub history : t .history ≡ o .2
+    pub posted : t .posted ≡ s .posted
+    pub next : t .next ≡ o .3
+    pub theory : Changed (meaning T s) (o .4) (meaning T t)
+    pub table : P .records (t .table) ≡ o .5
 
-  abbrev At : Config A B → Outcome → Type 0
+  abbrev pub At : Config A B → Outcome → Type 0
   At s o = Decided (T .domain) (T .capacity) (P .limit) (s .book) (s .waiting) (s .history) (s .next) (meaning T s .made) (P .records (s .table)) (meaning T s) o
 
   abbrev Top : Config A B → List Entry → Outcome → Type 0
   Top s w o = Item (T .domain) (T .capacity) (P .limit) (s .book) (s .waiting) (s .history) (s .next) (meaning T s .made) (P .records (s .table)) (meaning T s) w o
 
-  abbrev Outcomes : Config A B → StepAnswer → Config A B → Type 0
+  abbrev pub Outcomes : Config A B → StepAnswer → Config A B → Type 0
   Outcomes s a t = (o : Outcome) × Fulfils s o a t × At s o
 
   pub same-theory : (s t : Config A B) → t .theory ≡ s .theory → SameMeaning (meaning T s) (meaning T t)
@@ -87,7 +87,7 @@ module _ {A B : Type 0} (T : Theory.Ghosts A) (P : PartnerTable.Ghosts B) where
   turned s rest i j k h o turn x = at-top s (active i j ∷ rest) o (turn .stands) (turn .top) (inr (turn .record-of, turn .alive, inr ((turn .occurs .0, turn .occurs .1), (k, h, turn .occurs .2, x))))
 
   -- what a step says is what its top item decides
-  outcomes : (s t : Config A B) (a : StepAnswer) → Step-says T P s a t → Outcomes s a t
+  pub outcomes : (s t : Config A B) (a : StepAnswer) → Step-says T P s a t → Outcomes s a t
   outcomes s t a (ref.fails f) = (staying s sheet.failed, stays s sheet.failed, inl (f, refl))
   outcomes s t a (ref.ends st e) = (staying s sheet.done, stays s sheet.done, at-top s [] _ st e refl)
   outcomes s t a (ref.tells p rest is st top w l tl ta b) = (_, leaves s t sheet.told (map wake is ++ rest) (s .history) (s .next) (told-one p) (P .records (s .table)) b tl (ap (P .records) ta), at-top s (goal (tell p) ∷ rest) _ st top (is, w, inr (l, refl)))

@@ -7,3 +7,4 @@ pub mod Refined
 pub mod Abstract
 pub mod Readings
 pub mod Statements
+pub mod Samples
