@@ -8,3 +8,5 @@ pub mod Stepping
 pub mod Calling
 pub mod Known
 pub mod Samples
+pub mod Least
+pub mod Total

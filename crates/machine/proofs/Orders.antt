@@ -23,7 +23,7 @@ nolater-both [] (y ∷ ys) e a b = absurd (omega arith)
 nolater-both (x ∷ xs) [] e a b = absurd (omega arith)
 nolater-both (x ∷ xs) (y ∷ ys) e a b = let q : x ≡ y = omega (arith, a .0, b .0) in ap₂ (λ z l. z ∷ l) q (nolater-both xs ys (omega arith) (a .1 q) (b .1 (sym q)))
 
-positions-have : (k n p : ℕ) → k ≤ p → p < k + n → p ∈ positions k n
+pub positions-have : (k n p : ℕ) → k ≤ p → p < k + n → p ∈ positions k n
 positions-have k zero p a b = absurd (omega arith)
 positions-have k (suc n) p a b = go (λ l. positions-have (suc k) n p l (omega arith)) (cases-lt k p)
   where

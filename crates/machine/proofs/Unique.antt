@@ -51,7 +51,7 @@ split-one apart f g (inr a) (inr b) = g (a .1) (b .1)
 pub over-not : {m n : ℕ} → m < n → n ≤ m → ⊥
 over-not a b = omega arith
 
-matches-length : (store : Store) (ss is : List ℕ) → Matches store ss is → length is ≡ length ss
+pub matches-length : (store : Store) (ss is : List ℕ) → Matches store ss is → length is ≡ length ss
 matches-length store [] [] m = refl
 matches-length store [] (i ∷ is) m = absurd m
 matches-length store (s ∷ ss) [] m = absurd m

@@ -1,8 +1,9 @@
 -- What stands from the opening on and after every call. Assumes nothing.
 use mathlib.Core.Path.{_≡_}
 use mathlib.Core.Logic.{_↔_}
+use mathlib.Core.Bool.{true}
 use mathlib.Core.List.{List, [], _∷_, _++_, map}
-use Prim.Native.Nat.{ℕ, _≤_, _<_}
+use Prim.Native.Nat.{ℕ, _+_, _≤_, _<_}
 use lib.ListN.{length}
 use Rattle.std.specs.declared.option.Option.{Option}
 use Rattle.std.specs.declared.option.Option.the-variants.{Some, None}
@@ -10,17 +11,18 @@ use Rattle.terms.specs.declared.Operand.{Operand}
 use Rattle.terms.specs.declared.Primitive.{Primitive}
 use Rattle.terms.specs.Lists.{All}
 use Rattle.terms.specs.Domains.{Valuation, Sensible, TrueIn}
-use Rattle.rules.specs.Books.{Goal, Book}
+use Rattle.rules.specs.Books.{Goal, add, Book}
 use Rattle.theory.specs.declared.interface.Theory as Theory
-use Rattle.theory.specs.Meanings.{SameMeaning}
+use Rattle.theory.specs.Meanings.{Failed, Fixed, Follows, Told, Made, SameMeaning}
 use Rattle.table.specs.declared.partner.PartnerTable as PartnerTable
-use Rattle.table.specs.Records.{Record}
+use Rattle.table.specs.Records.{Record, recorded, fit}
+use Rattle.table.specs.Tables.{size, with-record, without}
 use Rattle.machine.specs.declared.answers.Limit.{Limit}
 use Rattle.machine.specs.declared.answers.End.{End}
 use Rattle.machine.specs.declared.answers.End.the-variants as ended
 use Rattle.machine.specs.Lists.{_∈_, Distinct}
 use Rattle.machine.specs.Matching.{Firing, Applies, rule-at}
-use Rattle.machine.specs.Sheets.{Config, StepAnswer, failed, done, told, activated, woken, dropped, passed, applied, full, Call, Answer, Accepted, made-variable, posted-goal, Event, took, stepped}
+use Rattle.machine.specs.Sheets.{goal, Config, StepAnswer, failed, done, told, activated, woken, dropped, passed, applied, full, Call, Answer, Accepted, made-variable, posted-goal, Event, took, stepped}
 use Rattle.machine.specs.Refined.{meaning, living, Stands, Step-says, Run-says, Opened, Says, Plays}
 use Rattle.machine.specs.Abstract.{State, Reaches, Shows, pending-of}
 use Rattle.machine.specs.Readings.{Reading, Obeys, GoalHolds, RecordHolds}
@@ -144,6 +146,20 @@ module _ {A B : Type 0} (T : Theory.Ghosts A) (P : PartnerTable.Ghosts B) where
   pub record Exactly (s : Config A B) (c : Call) (a : Answer) (t : Config A B) : Type 0 where
     pub says : (es : List Event) × Says T P s c a es t
     pub only : (b : Answer) (fs : List Event) (u : Config A B) → Says T P s c b fs u → (b ≡ a) × Alike u t
+
+  -- what a theory and a table can be asked, and what they can be made to do, in any state
+  pub record Decides : Type 0 where
+    pub failed : (x : A) → Dec (Failed (T .means x))
+    pub fixed : (x : A) (v : ℕ) → Dec (Fixed (T .means x) v)
+    pub ask : (x : A) (p : Primitive Operand) → Dec (Follows (T .means x) p)
+    pub tell : (x : A) (p : Primitive Operand) → (y : A) × Told (T .means x) p (T .means y)
+    pub make : (x : A) (k : ℕ) → T .means x .made + k ≤ T .capacity → (y : A) × Made (T .means x) k (T .means y)
+    pub put : (x : B) (n : ℕ) (r : Record) → fit n r ≡ true → size (P .records x) < P .limit → (y : B) × (P .records y ≡ with-record (P .records x) n r)
+    pub remove : (x : B) (those : List ℕ) → (y : B) × (P .records y ≡ without (P .records x) those)
+
+  -- every state has a step, whatever its lists hold, if the constraints that wait to be added are such as a table takes
+  abbrev pub SomeStep : Type 0
+  SomeStep = Decides → (s : Config A B) → ((c : ℕ) (xs : List Operand) → goal (add c xs) ∈ s .waiting → s .next ≤ 1000000 → fit (s .next) (recorded c xs) ≡ true) → (a : StepAnswer) × (t : Config A B) × Step-says T P s a t
 
   -- after an opening and any list of calls, all this stands
   abbrev pub Always : Book → Type 0

@@ -1,7 +1,7 @@
 //! What is proved of the machines, over any theory and any partner table: each function's contract is a theorem.
 
 ghost use Rattle.machine.specs.Samples.{SampleRuns};
-ghost use Rattle.machine.specs.Statements.{DoneIsExact, OneAnswer};
+ghost use Rattle.machine.specs.Statements.{DoneIsExact, OneAnswer, SomeStep};
 use table::partner::PartnerTable;
 use theory::interface::Theory;
 
@@ -15,6 +15,13 @@ pub fn done_is_exact<T: Theory, P: PartnerTable>() -> bool
 /// A call has one answer and one outcome, on a sheet and on any that no call can tell apart from it.
 pub fn one_answer<T: Theory, P: PartnerTable>() -> bool
     ensures { λ _. ⌜ OneAnswer T·Theory P·PartnerTable ⌝ }
+{
+    true
+}
+
+/// Every state has a step, whatever its lists hold: what the theory and the table decide is enough to make one.
+pub fn some_step<T: Theory, P: PartnerTable>() -> bool
+    ensures { λ _. ⌜ SomeStep T·Theory P·PartnerTable ⌝ }
 {
     true
 }
