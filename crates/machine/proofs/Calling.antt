@@ -1,8 +1,8 @@
 -- A call has one answer and one outcome. Assumes nothing.
 use mathlib.Core.Path.{_≡_, refl, sym, ap, subst, _∙_}
-use mathlib.Core.Logic.{_⊎_, inl, inr}
+use mathlib.Core.Logic.{inl, inr}
 use mathlib.Core.List.{List, [], _∷_, _++_}
-use Prim.Native.Nat.{ℕ, zero, suc, _+_, _≤_, _<_}
+use Prim.Native.Nat.{ℕ, zero, suc, _≤_, _<_}
 use native.Mathlib.Omega.{arith}
 use lib.ListN.{length}
 use Rattle.std.specs.declared.option.Option.{Option}
@@ -10,22 +10,19 @@ use Rattle.std.specs.declared.option.Option.the-variants.{Some, None}
 use Rattle.std.specs.declared.result.Result.{Result}
 use Rattle.std.specs.declared.result.Result.the-variants.{Ok, Err}
 use Rattle.terms.specs.declared.Operand.{Operand}
-use Rattle.terms.specs.Lists.{All}
 use Rattle.rules.specs.Books.{Goal, Book}
 use Rattle.theory.specs.declared.interface.Theory as Theory
-use Rattle.theory.specs.Meanings.{Meaning, Failed, SameMeaning, Made}
+use Rattle.theory.specs.Meanings.{Failed}
 use Rattle.table.specs.declared.partner.PartnerTable as PartnerTable
-use Rattle.machine.specs.declared.answers.Limit.{Limit}
 use Rattle.machine.specs.declared.answers.End.{End}
 use Rattle.machine.specs.declared.answers.End.the-variants as ended
 use Rattle.machine.specs.declared.answers.VariableRefusal.{VariableRefusal}
-use Rattle.machine.specs.declared.answers.VariableRefusal.the-variants.{AtCapacity}
 use Rattle.machine.specs.declared.answers.PostRefusal.{PostRefusal}
 use Rattle.machine.specs.declared.answers.PostRefusal.the-variants.{TheoryFailed, NoSuchKind, NoSuchSymbol, WrongCount, WrongOperand, TooMany}
 use Rattle.machine.specs.Sheets as sheet
-use Rattle.machine.specs.Sheets.{Entry, goal, Config, StepAnswer, Event, stepped, telling, Progress, Call, Answer}
+use Rattle.machine.specs.Sheets.{Entry, goal, Config, StepAnswer, Event, stepped, telling, Progress}
 use Rattle.machine.specs.Refined as ref
-use Rattle.machine.specs.Refined.{meaning, Stands, Step-says, Run-says, Variable-says, Post-says, Says, Waits, Counted, Postable, GoodOperands, goal-of, operand-count, made-events, post-events}
+use Rattle.machine.specs.Refined.{meaning, Stands, Step-says, Run-says, Variable-says, Post-says, Waits, GoodOperands, goal-of, operand-count, made-events, post-events}
 use Rattle.machine.specs.Statements.{Alike, OneAnswer}
 use Rattle.machine.proofs.Meanings.{same-back, same-then, failed-same, made-same}
 use Rattle.machine.proofs.Unique.{none-some, some-inj, Split, split-one, over-not}

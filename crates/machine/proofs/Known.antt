@@ -1,19 +1,16 @@
 -- Runs from a state of which everything is known. Assumes nothing.
 use mathlib.Core.Path.{_≡_, refl, sym, ap, subst, _∙_}
-use mathlib.Core.Logic.{_⊎_, inl, inr}
+use mathlib.Core.Logic.{inr}
 use mathlib.Core.List.{List, [], _∷_, _++_}
-use Prim.Native.Nat.{ℕ, zero, suc, _+_, _≤_, _<_}
+use Prim.Native.Nat.{ℕ, suc, _+_}
 use native.Mathlib.Omega.{arith}
 use lib.IntN.{pos}
 use lib.Signed.{leZ-yes}
-use lib.ListN.{length}
-use Rattle.std.specs.declared.option.Option.{Option}
-use Rattle.std.specs.declared.option.Option.the-variants.{Some, None}
-use Rattle.std.specs.declared.result.Result.the-variants.{Ok}
+use Rattle.std.specs.declared.option.Option.the-variants.{None}
 use Rattle.terms.specs.Domains.{Domain}
-use Rattle.rules.specs.Books.{Goal, add, Book}
+use Rattle.rules.specs.Books.{add, Book}
 use Rattle.theory.specs.declared.interface.Theory as Theory
-use Rattle.theory.specs.Meanings.{Meaning, Failed, SameMeaning, Clear}
+use Rattle.theory.specs.Meanings.{Meaning, SameMeaning}
 use Rattle.table.specs.declared.partner.PartnerTable as PartnerTable
 use Rattle.table.specs.Tables.{Table, nothing}
 use Rattle.machine.specs.declared.answers.End.{End}
@@ -22,7 +19,7 @@ use Rattle.machine.specs.Matching.{Firing}
 use Rattle.machine.specs.Sheets as sheet
 use Rattle.machine.specs.Sheets.{Entry, goal, Config, StepAnswer, Event, stepped, telling, Progress}
 use Rattle.machine.specs.Refined as ref
-use Rattle.machine.specs.Refined.{meaning, Stands, Step-says, Run-says, Opened, Says, Waits}
+use Rattle.machine.specs.Refined.{meaning, Stands, Step-says, Run-says, Opened}
 use Rattle.machine.specs.Samples.{PostedA}
 use Rattle.machine.proofs.Meanings.{same-back, failed-same}
 use Rattle.machine.proofs.Done.{step-done, full-not}

@@ -1,9 +1,9 @@
 -- The first of the lists that pass a test, by place, and the first fitting tuple. Assumes nothing.
 use mathlib.Core.Path.{_≡_, refl, sym, ap, ap₂, subst, _∙_}
 use mathlib.Core.Logic.{_⊎_, inl, inr}
-use mathlib.Core.Bool.{Bool, true, false, not, cond, Bool-discrete}
+use mathlib.Core.Bool.{true, not, cond, Bool-discrete}
 use mathlib.Core.HLevel.{Discrete, ×-discrete}
-use mathlib.Core.List.{List, [], _∷_, _++_, map, List-discrete}
+use mathlib.Core.List.{List, [], _∷_, map, List-discrete}
 use Prim.Native.Nat.{ℕ, zero, suc, _+_, _-_, _≤_, _<_}
 use native.Mathlib.Omega.{arith}
 use native.Mathlib.Decide.{ℕ-discrete}
@@ -23,7 +23,7 @@ use Rattle.theory.specs.declared.interface.Theory as Theory
 use Rattle.theory.specs.Meanings.{Follows}
 use Rattle.table.specs.declared.partner.PartnerTable as PartnerTable
 use Rattle.table.specs.Records.{Record, symbol-of}
-use Rattle.machine.specs.Lists.{_∈_, here, there, Distinct, NoLater}
+use Rattle.machine.specs.Lists.{_∈_, there, Distinct, NoLater}
 use Rattle.machine.specs.Matching.{Store, Firing, Matches, fill-primitive, head-slot}
 use Rattle.machine.specs.Occurrences.{positions, search-order, sought}
 use Rattle.machine.specs.Sheets.{Config}

@@ -1,5 +1,5 @@
 -- What two theories with one meaning share. Assumes nothing.
-use mathlib.Core.Path.{_≡_, refl, sym, ap, subst, _∙_}
+use mathlib.Core.Path.{sym, ap, subst, _∙_}
 use mathlib.Core.Logic.{_↔_, _⊎_, inl, inr}
 use mathlib.Core.Bool.{Bool, true, false}
 use Prim.Native.Nat.{ℕ, _+_, _≤_, _<_}
@@ -12,7 +12,7 @@ use Rattle.terms.specs.declared.Operand.the-variants.{Value, Variable}
 use Rattle.terms.specs.declared.Primitive.{Primitive}
 use Rattle.terms.specs.declared.Primitive.the-variants.{Same, Least, Most}
 use Rattle.terms.specs.Values.{IsValue}
-use Rattle.terms.specs.Domains.{Domain, Valuation, TrueIn}
+use Rattle.terms.specs.Domains.{Domain, Valuation}
 use Rattle.theory.specs.Meanings.{Meaning, Known, KnownAll, Follows, Failed, Fixed, SameMeaning, Told, Made}
 use Rattle.std.proofs.shelf.Tests.{cases-lt}
 

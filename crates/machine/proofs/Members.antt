@@ -1,17 +1,17 @@
 -- Membership in lists, and what filters and tests keep. Assumes nothing.
 use mathlib.Core.Path.{_≡_, refl, sym, ap, subst, _∙_}
 use mathlib.Core.Logic.{_⊎_, inl, inr}
-use mathlib.Core.Bool.{Bool, true, false, not, cond}
+use mathlib.Core.Bool.{Bool, true, false, cond}
 use mathlib.Core.HLevel.{Discrete}
 use mathlib.Core.List.{List, [], _∷_, _++_, map}
-use Prim.Native.Nat.{ℕ, zero, suc, _+_, _-_, _≤_, _<_}
+use Prim.Native.Nat.{ℕ, zero, suc, _≤_, _<_}
 use native.Mathlib.Omega.{arith}
 use native.Mathlib.Nat.{not-suc-le-zero}
 use lib.Dec.{eqb}
-use lib.ListN.{length, getD, take, drop}
+use lib.ListN.{length, getD, drop}
 use Rattle.std.specs.shelf.Lists.{kept-by}
-use Rattle.std.proofs.shelf.Tests.{eqb-true, eqb-false, eq-eqb, ne-eqb, both-ways}
-use Rattle.machine.specs.Lists.{_∈_, here, there, Distinct}
+use Rattle.std.proofs.shelf.Tests.{eqb-true, eq-eqb, both-ways}
+use Rattle.machine.specs.Lists.{_∈_, here, there}
 use Rattle.terms.specs.Lists.{All}
 use Rattle.table.specs.Lists.{memberb}
 use Rattle.machine.specs.Refined.{names-any}

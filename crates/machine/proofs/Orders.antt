@@ -1,18 +1,16 @@
 -- The order of tuples: the first in the order of a search is one. Assumes nothing.
 use mathlib.Core.Path.{_≡_, refl, sym, ap, ap₂, subst, _∙_}
 use mathlib.Core.Logic.{_⊎_, inl, inr}
-use mathlib.Core.Bool.{Bool, true, false, not}
+use mathlib.Core.Bool.{not}
 use mathlib.Core.List.{List, [], _∷_, map, head-eq-of-cons-eq, tail-eq-of-cons-eq}
 use Prim.Native.Nat.{ℕ, zero, suc, _+_, _≤_, _<_}
 use native.Mathlib.Omega.{arith}
-use native.Mathlib.Nat.{not-suc-le-zero}
 use native.Mathlib.Decide.{ℕ-discrete}
 use lib.Dec.{eqb}
 use lib.ListN.{length, getD, length-map}
 use Rattle.std.proofs.shelf.Lists.{ext-getD}
 use Rattle.std.proofs.shelf.Tests.{ne-eqb, cases-lt}
 use Rattle.machine.specs.Lists.{_∈_, here, there, NoLater, Rising}
-use Rattle.terms.specs.Lists.{All}
 use Rattle.machine.specs.Occurrences.{positions, search-order, sought}
 use Rattle.machine.proofs.Members.{mem-kept, mem-cases, mem-none, all-mem, here-at}
 

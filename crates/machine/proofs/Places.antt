@@ -2,14 +2,14 @@
 use mathlib.Core.Path.{_≡_, refl, sym, ap, subst, _∙_}
 use mathlib.Core.Logic.{_⊎_, inl, inr}
 use mathlib.Core.Bool.{Bool, true, false, cond}
-use mathlib.Core.List.{List, [], _∷_, _++_}
+use mathlib.Core.List.{List, [], _∷_}
 use Prim.Native.Nat.{ℕ, zero, suc, _+_, _-_, _≤_, _<_}
 use native.Mathlib.Omega.{arith}
-use native.Mathlib.Nat.{not-suc-le-zero, suc-sub-suc, sub-zero}
+use native.Mathlib.Nat.{not-suc-le-zero}
 use lib.Dec.{eqb}
 use lib.ListN.{length, getD}
-use Rattle.std.proofs.shelf.Tests.{eqb-true, eq-eqb}
-use Rattle.machine.specs.Lists.{_∈_, here, there}
+use Rattle.std.proofs.shelf.Tests.{eq-eqb}
+use Rattle.machine.specs.Lists.{_∈_}
 use Rattle.rules.specs.Books.{Rule, Book, heads}
 use Rattle.machine.specs.Matching.{no-rule, rule-at}
 use Rattle.machine.specs.Occurrences.{places-from, occurrences-from, occurrences}

@@ -7,7 +7,7 @@ use Prim.Native.Nat.{ℕ, zero, suc, _+_, _≤_, _<_}
 use native.Mathlib.Omega.{arith}
 use lib.Dec.{lit≤}
 use lib.ListN.{length, getD}
-use Rattle.std.specs.declared.option.Option.the-variants.{Some, None}
+use Rattle.std.specs.declared.option.Option.the-variants.{Some}
 use Rattle.std.proofs.shelf.Tests.{cases-eq, both-ways}
 use Rattle.rules.specs.Books.{add}
 use Rattle.theory.specs.declared.interface.Theory as Theory
@@ -19,7 +19,7 @@ use Rattle.table.specs.Tables.{Table, nothing, size, with-record, without}
 use Rattle.table.proofs.Tables.{only, tally-none, size-both, size-only, with-other, with-both}
 use Rattle.machine.specs.declared.answers.End.{End}
 use Rattle.machine.specs.declared.answers.End.the-variants as ended
-use Rattle.machine.specs.Lists.{_∈_, here, there}
+use Rattle.machine.specs.Lists.{_∈_, here}
 use Rattle.machine.specs.Matching.{Firing}
 use Rattle.machine.specs.Sheets as sheet
 use Rattle.machine.specs.Sheets.{Entry, goal, active, Config, StepAnswer, Event, stepped}
@@ -28,7 +28,7 @@ use Rattle.machine.specs.Refined.{meaning, Run-says, Opened}
 use Rattle.machine.specs.Samples.{kept-book, pair-book, silent, five-steps, six-steps, one-alone, two-gone, PostedA, Ends, SampleRuns}
 use Rattle.machine.proofs.Members.{mem-none, mem-cases, here-at}
 use Rattle.machine.proofs.Unique.{none-some, kept, made-some, Outcome, Fit}
-use Rattle.machine.proofs.Known.{Is, Tops, Goes, run-is, run-rests, run-stops, opened-is, posted-is}
+use Rattle.machine.proofs.Known.{Is, run-is, run-rests, run-stops, opened-is, posted-is}
 
 abbrev a : Record
 a = recorded 0 []

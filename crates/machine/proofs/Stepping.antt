@@ -1,16 +1,12 @@
 -- A step has one answer and one outcome, on a sheet and on any that no call can tell apart from it. Assumes nothing.
 use mathlib.Core.Path.{_≡_, refl, sym, ap, subst, _∙_}
-use mathlib.Core.Logic.{_⊎_, inl, inr, Iff·rfl}
+use mathlib.Core.Logic.{inl, inr, Iff·rfl}
 use mathlib.Core.List.{List, [], _∷_, _++_, map}
-use Prim.Native.Nat.{ℕ, suc, _+_, _≤_, _<_}
-use lib.ListN.{length}
-use Rattle.std.specs.declared.option.Option.the-variants.{Some, None}
-use Rattle.terms.specs.declared.Operand.{Operand}
-use Rattle.terms.specs.declared.Primitive.{Primitive}
+use Prim.Native.Nat.{ℕ, suc}
 use Rattle.terms.specs.Domains.{Domain}
-use Rattle.rules.specs.Books.{Goal, tell, add, Book}
+use Rattle.rules.specs.Books.{tell, add, Book}
 use Rattle.theory.specs.declared.interface.Theory as Theory
-use Rattle.theory.specs.Meanings.{Meaning, Failed, SameMeaning, Told, Made}
+use Rattle.theory.specs.Meanings.{Meaning, SameMeaning, Told, Made}
 use Rattle.table.specs.declared.partner.PartnerTable as PartnerTable
 use Rattle.table.specs.Records.{recorded}
 use Rattle.table.specs.Tables.{Table, with-record, without}
@@ -19,10 +15,10 @@ use Rattle.machine.specs.Matching.{Firing, gone}
 use Rattle.machine.specs.Sheets as sheet
 use Rattle.machine.specs.Sheets.{Entry, goal, wake, active, Config, StepAnswer}
 use Rattle.machine.specs.Refined as ref
-use Rattle.machine.specs.Refined.{meaning, living, rule-of, Stands, Fits, FirstFit, NoneFits, Turn, Becomes, Waits, Step-says, waiting-after, history-after}
+use Rattle.machine.specs.Refined.{meaning, rule-of, Stands, Fits, FirstFit, Turn, Becomes, Waits, Step-says, waiting-after, history-after}
 use Rattle.machine.specs.Statements.{Alike}
 use Rattle.machine.proofs.Meanings.{same-back, same-then, told-same, made-same}
-use Rattle.machine.proofs.Unique.{Change, kept, told-one, made-some, Outcome, Fit, FirstOf, Tries, Item, Decided, decided-same, decided-one, stay, only, Split}
+use Rattle.machine.proofs.Unique.{Change, kept, told-one, made-some, Outcome, Fit, FirstOf, Tries, Item, Decided, decided-same, decided-one}
 
 -- how the theory changes
 abbrev pub Changed : {d : Domain} → Meaning d → Change → Meaning d → Type 0

@@ -1,7 +1,7 @@
 -- Every state has a step. Assumes nothing.
-use mathlib.Core.Path.{_≡_, refl, sym, ap, subst, _∙_}
+use mathlib.Core.Path.{_≡_, refl, sym, subst}
 use mathlib.Core.Logic.{_⊎_, inl, inr}
-use mathlib.Core.Bool.{Bool, true, Bool-discrete}
+use mathlib.Core.Bool.{true, Bool-discrete}
 use mathlib.Core.List.{List, [], _∷_, _++_, map}
 use Prim.Native.Nat.{ℕ, zero, suc, _+_, _-_, _≤_, _<_}
 use native.Mathlib.Omega.{arith}
@@ -12,13 +12,13 @@ use Rattle.std.proofs.shelf.Tests.{cases-lt}
 use Rattle.terms.specs.declared.Operand.{Operand}
 use Rattle.terms.specs.declared.Operand.the-variants.{Value, Variable}
 use Rattle.terms.specs.Lists.{All}
-use Rattle.rules.specs.Books.{Goal, tell, add}
+use Rattle.rules.specs.Books.{tell, add}
 use Rattle.theory.specs.declared.interface.Theory as Theory
-use Rattle.theory.specs.Meanings.{Meaning, Failed, Fixed}
+use Rattle.theory.specs.Meanings.{Failed, Fixed}
 use Rattle.table.specs.declared.partner.PartnerTable as PartnerTable
 use Rattle.table.specs.Lists.{first}
 use Rattle.table.specs.Records.{Record, recorded, fit}
-use Rattle.table.specs.Tables.{size, with-record, without}
+use Rattle.table.specs.Tables.{size}
 use Rattle.table.proofs.Looks.{high-fit}
 use Rattle.machine.specs.declared.answers.Limit.the-variants as limit
 use Rattle.machine.specs.Lists.{_∈_, here, there, Rising}

@@ -1,7 +1,7 @@
 -- What the top item decides: a step's answer and all that it leaves. Assumes nothing.
 use mathlib.Core.Path.{_≡_, refl, sym, ap, subst, _∙_}
 use mathlib.Core.Logic.{_⊎_, inl, inr}
-use mathlib.Core.Bool.{Bool, true, false, not, cond}
+use mathlib.Core.Bool.{true, not, cond}
 use mathlib.Core.List.{List, [], _∷_, _++_, map}
 use Prim.Native.Nat.{ℕ, suc, _+_, _-_, _≤_, _<_}
 use native.Mathlib.Omega.{arith}
@@ -11,22 +11,20 @@ use Rattle.std.specs.shelf.Lists.{kept-by}
 use Rattle.std.specs.declared.option.Option.{Option}
 use Rattle.std.specs.declared.option.Option.the-variants.{Some, None}
 use Rattle.terms.specs.declared.Operand.{Operand}
-use Rattle.terms.specs.declared.Operand.the-variants.{Value, Variable}
 use Rattle.terms.specs.declared.Primitive.{Primitive}
 use Rattle.terms.specs.Lists.{All}
 use Rattle.terms.specs.Domains.{Domain}
-use Rattle.rules.specs.Books.{Goal, tell, add, Book, heads}
-use Rattle.theory.specs.Meanings.{Meaning, Follows, Failed, Fixed, SameMeaning}
+use Rattle.rules.specs.Books.{tell, add, Book, heads}
+use Rattle.theory.specs.Meanings.{Meaning, Failed, SameMeaning}
 use Rattle.table.specs.Lists.{first}
-use Rattle.table.specs.Records.{Record, recorded, symbol-of}
+use Rattle.table.specs.Records.{Record, recorded}
 use Rattle.table.specs.Tables.{Table, size, with-record, without}
 use Rattle.machine.specs.declared.answers.Limit.the-variants as limit
-use Rattle.machine.specs.Lists.{_∈_, here, there, NoLater}
+use Rattle.machine.specs.Lists.{_∈_, NoLater}
 use Rattle.machine.specs.Matching.{Store, Firing, Matches, Applies, rule-at, body-for, gone, fill-primitive, head-slot}
 use Rattle.machine.specs.Occurrences.{occurrences, search-order, sought}
 use Rattle.machine.specs.Sheets.{Entry, goal, wake, active, StepAnswer, failed, done, told, activated, woken, dropped, passed, applied, full}
 use Rattle.machine.specs.Refined.{removes-nothing, names-any, Unfixed, AllFixed, Wakes}
-use Rattle.machine.proofs.Places.{occurs-bounds}
 use Rattle.machine.proofs.Orders.{first-is-one, rising-one}
 use Rattle.machine.proofs.Members.{mem-dec}
 use Rattle.machine.proofs.Meanings.{same-back, failed-same, fixed-same, follows-same}

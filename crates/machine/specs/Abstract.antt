@@ -1,13 +1,12 @@
 -- The abstract machine, and when a sheet shows one of its states. Assumes nothing.
 use mathlib.Core.Path.{_≡_}
 use mathlib.Core.Logic.{_↔_}
-use mathlib.Core.Bool.{Bool, true, cond}
+use mathlib.Core.Bool.{true, cond}
 use mathlib.Core.List.{List, [], _∷_, _++_}
 use Prim.Native.Nat.{ℕ, suc, _+_, _≤_, _<_}
 use lib.Dec.{eqb}
 use lib.ListN.{length, getD}
 use Rattle.std.specs.Options.{isSome}
-use Rattle.std.specs.declared.option.Option.{Option}
 use Rattle.std.specs.declared.option.Option.the-variants.{Some, None}
 use Rattle.terms.specs.declared.Operand.{Operand}
 use Rattle.terms.specs.declared.Operand.the-variants.{Value, Variable}
@@ -16,7 +15,7 @@ use Rattle.terms.specs.Lists.{All}
 use Rattle.terms.specs.Values.{IsValue}
 use Rattle.terms.specs.Primitives.{EachPart}
 use Rattle.terms.specs.Domains.{Domain, Valuation, Sensible, TrueIn}
-use Rattle.rules.specs.Books.{Goal, tell, add, Rule, Book}
+use Rattle.rules.specs.Books.{Goal, tell, add, Book}
 use Rattle.theory.specs.declared.interface.Theory as Theory
 use Rattle.theory.specs.Meanings.{Meaning, Failed}
 use Rattle.table.specs.declared.partner.PartnerTable as PartnerTable

@@ -36,7 +36,7 @@ use Rattle.machine.specs.declared.answers.PostRefusal.the-variants.{TheoryFail
 use Rattle.machine.specs.Lists.{_∈_, NoLater, Rising}
 use Rattle.machine.specs.Matching.{Store, Firing, Applies, rule-at, body-for, gone}
 use Rattle.machine.specs.Occurrences.{occurrences, search-order, sought}
-use Rattle.machine.specs.Sheets.{Entry, goal, wake, active, Config, StepAnswer, failed, done, told, activated, woken, dropped, passed, applied, full, Call, variable, step, post, run, Answer, by-variable, by-post, by-step, by-run, Accepted, made-variable, posted-goal, Event, took, stepped, telling, Progress}
+use Rattle.machine.specs.Sheets.{Entry, goal, wake, active, Config, StepAnswer, failed, done, told, activated, woken, dropped, passed, applied, full, Call, variable, step, post, run, Answer, by-variable, by-post, by-step, by-run, made-variable, posted-goal, Event, took, stepped, telling, Progress}
 
 -- whether the rule removes nothing, so that the history tells where it was applied
 abbrev pub removes-nothing : Rule → Bool

@@ -3,7 +3,7 @@ use mathlib.Core.Path.{_≡_}
 use mathlib.Core.List.{List, [], _∷_}
 use Prim.Native.Nat.{ℕ, _+_, _≤_}
 use Rattle.std.specs.declared.result.Result.the-variants.{Ok}
-use Rattle.rules.specs.Books.{add, Rule, Book}
+use Rattle.rules.specs.Books.{add, Book}
 use Rattle.theory.specs.declared.interface.Theory as Theory
 use Rattle.table.specs.declared.partner.PartnerTable as PartnerTable
 use Rattle.machine.specs.declared.answers.End.{End}

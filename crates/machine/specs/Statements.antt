@@ -5,8 +5,7 @@ use mathlib.Core.Bool.{true}
 use mathlib.Core.List.{List, [], _∷_, _++_, map}
 use Prim.Native.Nat.{ℕ, _+_, _≤_, _<_}
 use lib.ListN.{length}
-use Rattle.std.specs.declared.option.Option.{Option}
-use Rattle.std.specs.declared.option.Option.the-variants.{Some, None}
+use Rattle.std.specs.declared.option.Option.the-variants.{Some}
 use Rattle.terms.specs.declared.Operand.{Operand}
 use Rattle.terms.specs.declared.Primitive.{Primitive}
 use Rattle.terms.specs.Lists.{All}
@@ -17,7 +16,6 @@ use Rattle.theory.specs.Meanings.{Failed, Fixed, Follows, Told, Made, SameMeani
 use Rattle.table.specs.declared.partner.PartnerTable as PartnerTable
 use Rattle.table.specs.Records.{Record, recorded, fit}
 use Rattle.table.specs.Tables.{size, with-record, without}
-use Rattle.machine.specs.declared.answers.Limit.{Limit}
 use Rattle.machine.specs.declared.answers.End.{End}
 use Rattle.machine.specs.declared.answers.End.the-variants as ended
 use Rattle.machine.specs.Lists.{_∈_, Distinct}
