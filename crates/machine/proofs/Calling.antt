@@ -1,6 +1,6 @@
 -- A call has one answer and one outcome. Assumes nothing.
 use mathlib.Core.Path.{_≡_, refl, sym, ap, subst, _∙_}
-use mathlib.Core.Logic.{inl, inr}
+use mathlib.Core.Logic.{inl, inr, Iff·rfl}
 use mathlib.Core.List.{List, [], _∷_, _++_}
 use Prim.Native.Nat.{ℕ, zero, suc, _≤_, _<_}
 use native.Mathlib.Omega.{arith}
@@ -20,10 +20,10 @@ use Rattle.machine.specs.declared.answers.VariableRefusal.{VariableRefusal}
 use Rattle.machine.specs.declared.answers.PostRefusal.{PostRefusal}
 use Rattle.machine.specs.declared.answers.PostRefusal.the-variants.{TheoryFailed, NoSuchKind, NoSuchSymbol, WrongCount, WrongOperand, TooMany}
 use Rattle.machine.specs.Sheets as sheet
-use Rattle.machine.specs.Sheets.{Entry, goal, Config, StepAnswer, Event, stepped, telling, Progress}
+use Rattle.machine.specs.Sheets.{Entry, goal, Config, StepAnswer, Event, stepped, telling, Progress, Call, Answer}
 use Rattle.machine.specs.Refined as ref
-use Rattle.machine.specs.Refined.{meaning, Stands, Step-says, Run-says, Variable-says, Post-says, Waits, GoodOperands, goal-of, operand-count, made-events, post-events}
-use Rattle.machine.specs.Statements.{Alike, OneAnswer}
+use Rattle.machine.specs.Refined.{meaning, Stands, Step-says, Run-says, Variable-says, Post-says, Says, Waits, GoodOperands, goal-of, operand-count, made-events, post-events}
+use Rattle.machine.specs.Statements.{Alike, OneAnswer, Exactly}
 use Rattle.machine.proofs.Meanings.{same-back, same-then, failed-same, made-same}
 use Rattle.machine.proofs.Unique.{none-some, some-inj, Split, split-one, over-not}
 use Rattle.machine.proofs.Stepping.{one-step, same-theory}
@@ -167,3 +167,10 @@ module _ {A B : Type 0} (T : Theory.Ghosts A) (P : PartnerTable.Ghosts B) where
   one-answer s s′ t u c a b es fs al (ref.at-post kind symbol xs x v) (ref.at-post _ _ _ y w) = let r = one-post s s′ t u kind symbol xs x y al v w in (ap sheet.by-post (r .0), ap (λ z. post-events z (goal-of kind symbol xs)) (r .0), r .1)
   one-answer s s′ t u c a b es fs al (ref.at-step x v) (ref.at-step y w) = let r = one-step T P s s′ t u x y al v w in (ap sheet.by-step (r .0), λ i. stepped (r .0 i) (telling (al .waiting i) (r .0 i)) ∷ [], r .1)
   one-answer s s′ t u c a b es fs al (ref.at-run k made e v) (ref.at-run _ made′ f w) = let r = one-run k s s′ t u e f made made′ al v w in (λ i. sheet.by-run (r .0 i) (length (r .1 i)), r .1, r .2)
+
+  alike-self : (s : Config A B) → Alike T P s s
+  alike-self s = record { book = refl; waiting = refl; history = refl; posted = refl; next = refl; theory = (refl, λ v. Iff·rfl); table = refl }
+
+  -- what a call says is all that it can say
+  pub exactly : (s t : Config A B) (c : Call) (a : Answer) (es : List Event) → Says T P s c a es t → Exactly T P s c a t
+  exactly s t c a es x = record { says = (es, x); only = λ b fs u y. let r = one-answer s s u t c b a fs es (alike-self s) y x in (r .0, r .2) }
