@@ -1,0 +1,12 @@
+pub mod Members
+pub mod Places
+pub mod Orders
+pub mod Meanings
+pub mod Done
+pub mod Unique
+pub mod Stepping
+pub mod Calling
+pub mod Known
+pub mod Samples
+pub mod Least
+pub mod Total

@@ -1,0 +1,10 @@
+pub mod Refusals
+pub mod Lists
+pub mod Matching
+pub mod Occurrences
+pub mod Sheets
+pub mod Refined
+pub mod Abstract
+pub mod Readings
+pub mod Statements
+pub mod Samples
