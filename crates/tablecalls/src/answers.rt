@@ -40,7 +40,7 @@ fn put_name(put: Put) -> &'static str {
 }
 
 /// Makes a call.
-pub fn make<P: PartnerTable>(table: &mut P, call: &Call) -> Answer {
+pub(crate) fn make<P: PartnerTable>(table: &mut P, call: &Call) -> Answer {
     match call {
         Call::Clear => {
             table.clear();

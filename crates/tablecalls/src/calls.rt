@@ -16,7 +16,7 @@ pub enum Call {
 }
 
 /// The call that a line says: its name and its arguments, with spaces between them. None is written `-`, and the variable 5 `x5`.
-pub fn parse(heap: Global, line: &str) -> Result<Call, AnyError> {
+pub(crate) fn parse(heap: Global, line: &str) -> Result<Call, AnyError> {
     let mut words = line.split_whitespace();
     let name = word(&mut words)?;
     match name {
