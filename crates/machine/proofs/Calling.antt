@@ -1,5 +1,5 @@
 -- A call has one answer and one outcome. Assumes nothing.
-use Rattle.std.proofs.Common.{◌≡◌, ℕ, zero, suc, ◌<◌, ◌≤◌, Bool, List, [], ◌∷◌, ◌++◌, length, Some, None, Ok, Err, Option, Result, sym, refl, ap, ◌∙◌, subst, inl, inr, arith}
+use Rattle.std.proofs.Common.{◌≡◌, ℕ, zero, suc, ◌<◌, ◌≤◌, List, [], ◌∷◌, ◌++◌, length, Some, None, Ok, Err, Option, Result, sym, refl, ap, ◌∙◌, subst, inl, inr, arith}
 use mathlib.Core.Logic.Iff
 use Rattle.terms.specs.declared.Operand.{Operand}
 use Rattle.rules.specs.Books.{Goal, Book}
@@ -14,7 +14,7 @@ use Rattle.machine.specs.declared.answers.PostRefusal.TheVariants.{TheoryFailed,
 use Rattle.machine.specs.Sheets as sheet
 use Rattle.machine.specs.Sheets.{Entry, goal, Config, StepAnswer, Event, stepped, telling, Progress, Call, Answer}
 use Rattle.machine.specs.Refined as ref
-use Rattle.machine.specs.Refined.{meaning, Stands, StepSays, RunSays, VariableSays, PostSays, Says, Waits, with-variable, GoodOperands, goal_of, operand_count, made_events, post_events}
+use Rattle.machine.specs.Refined.{meaning, Stands, StepSays, RunSays, VariableSays, PostSays, Says, Waits, GoodOperands, goal_of, operand_count, made_events, post_events}
 use Rattle.machine.specs.Statements.{Alike, OneAnswer, Exactly}
 use Rattle.machine.proofs.Meanings.{same_back, same_then, failed_same, made_same}
 use Rattle.machine.proofs.Unique.{none_some, some_inj, Split, split_one, over_not}
@@ -47,7 +47,7 @@ abbrev Reply : Type 0
 Reply = Result (Unit {0}) PostRefusal × List Entry
 
 -- what a posting is answered, and the waiting list after it
-abbrev Accepts : ℕ → ℕ → List Operand → Book → List Entry → (ℕ → Bool) → Reply → Type 0
+abbrev Accepts : ℕ → ℕ → List Operand → Book → List Entry → List ℕ → Reply → Type 0
 Accepts kind symbol xs book w posted o = Split (3 < kind) (kind ≤ 3) (o ≡ (Err NoSuchKind, w)) (Split ((kind ≡ 3) × (length book.arities ≤ symbol)) (kind ≡ 3 → symbol < length book.arities) (o ≡ (Err NoSuchSymbol, w)) (Split (length xs ≡ operand_count book kind symbol → ⊥) (length xs ≡ operand_count book kind symbol) (o ≡ (Err WrongCount, w)) (Split (GoodOperands posted kind symbol xs → ⊥) (GoodOperands posted kind symbol xs) (o ≡ (Err WrongOperand, w)) (Split (512 ≤ length w) (length w < 512) (o ≡ (Err TooMany, w)) ((g : Goal Operand) × (goal_of kind symbol xs ≡ Some g) × (o ≡ (Ok tt, w ++ (goal g ∷ []))))))))
 
 module _ {A B : Type 0} (T : Theory.Ghosts A) (P : PartnerTable.Ghosts B) where
@@ -109,7 +109,7 @@ module _ {A B : Type 0} (T : Theory.Ghosts A) (P : PartnerTable.Ghosts B) where
       go ih a b = let r = one_step T P s s' a.1 b.1 a.0 b.0 al a.2 b.2 in fin ih a.0 a.1 b.1 r.1 (ending a.0) a.3 (subst (λ (z : StepAnswer). Tail k s' z b.1 fs f u (ending z)) (sym r.0) b.3)
 
   pub one_variable : (s s' t u : Config A B) (x y : Result ℕ VariableRefusal) → Alike T P s s' → VariableSays T s x t → VariableSays T s' y u → (x ≡ y) × Alike T P t u
-  one_variable s s' t u x y al (ref.makes l m ta bo wa hi po ne) (ref.makes l' m' ta' bo' wa' hi' po' ne') = (ap (λ (z : ℕ). Ok z) (sym al.theory.0), record { book = bo ∙ al.book ∙ sym bo'; waiting = wa ∙ al.waiting ∙ sym wa'; history = hi ∙ al.history ∙ sym hi'; posted = po ∙ (λ i. with-variable (al.posted i) (sym al.theory.0 i)) ∙ sym po'; next = ne ∙ al.next ∙ sym ne'; theory = made_same (meaning T s) (meaning T s') (meaning T t) (meaning T u) 1 al.theory m m'; table = ap P.records ta ∙ al.table ∙ sym (ap P.records ta') })
+  one_variable s s' t u x y al (ref.makes l m ta bo wa hi po ne) (ref.makes l' m' ta' bo' wa' hi' po' ne') = (ap (λ (z : ℕ). Ok z) (sym al.theory.0), record { book = bo ∙ al.book ∙ sym bo'; waiting = wa ∙ al.waiting ∙ sym wa'; history = hi ∙ al.history ∙ sym hi'; posted = po ∙ (λ i. al.posted i ++ (sym al.theory.0 i ∷ [])) ∙ sym po'; next = ne ∙ al.next ∙ sym ne'; theory = made_same (meaning T s) (meaning T s') (meaning T t) (meaning T u) 1 al.theory m m'; table = ap P.records ta ∙ al.table ∙ sym (ap P.records ta') })
   one_variable s s' t u x y al (ref.makes l m ta bo wa hi po ne) (ref.no_variable c) = absurd (omega (arith, l, c, al.theory.0))
   one_variable s s' t u x y al (ref.no_variable c) (ref.makes l m ta bo wa hi po ne) = absurd (omega (arith, l, c, al.theory.0))
   one_variable s s' t u x y al (ref.no_variable c) (ref.no_variable c') = (refl, al)
@@ -146,7 +146,7 @@ module _ {A B : Type 0} (T : Theory.Ghosts A) (P : PartnerTable.Ghosts B) where
     where
       here : (o : Reply) → Judged s' kind symbol xs o → Judged s kind symbol xs o
       here o (inl p) = inl (failed_alike s s' al p.0, subst (λ z. o ≡ (Err TheoryFailed, z)) (sym al.waiting) p.1)
-      here o (inr p) = inr (stands_alike s s' al p.0, subst (λ (z : Book × List Entry × (ℕ → Bool)). Accepts kind symbol xs z.0 z.1 z.2 o) (λ i. (sym al.book i, sym al.waiting i, sym al.posted i)) p.1)
+      here o (inr p) = inr (stands_alike s s' al p.0, subst (λ (z : Book × List Entry × List ℕ). Accepts kind symbol xs z.0 z.1 z.2 o) (λ i. (sym al.book i, sym al.waiting i, sym al.posted i)) p.1)
 
       same : (o p : Reply) → o ≡ p → Waits s t o.1 → Waits s' u p.1 → Alike T P t u
       same o p e v w = record { book = v.becomes.book ∙ al.book ∙ sym w.becomes.book; waiting = v.becomes.waiting ∙ ap (λ (z : Reply). z.1) e ∙ sym w.becomes.waiting; history = v.becomes.history ∙ al.history ∙ sym w.becomes.history; posted = v.becomes.posted ∙ al.posted ∙ sym w.becomes.posted; next = v.becomes.next ∙ al.next ∙ sym w.becomes.next; theory = same_then (meaning T t) (meaning T s) (meaning T u) (same_back (meaning T s) (meaning T t) (same_theory T P s t v.theory)) (same_then (meaning T s) (meaning T s') (meaning T u) al.theory (same_theory T P s' u w.theory)); table = ap P.records v.table ∙ al.table ∙ sym (ap P.records w.table) }

@@ -3,7 +3,7 @@ use Rattle.std.proofs.Common.{◌≡◌, ℕ, suc, ◌-◌, ◌<◌, ◌≤◌, 
 use mathlib.Core.HLevel.{Discrete, ×_discrete}
 use mathlib.Core.List.{List-discrete}
 use native.Mathlib.Decide.{ℕ_discrete}
-use Rattle.std.proofs.lemmas.Bool.{both_ways, cases_eq, cases_bool, ltb-false, not_from_false}
+use Rattle.std.proofs.lemmas.Bool.{both_ways, cases_eq, cases_Bool, ltb-false, not_from_false}
 use Rattle.terms.specs.declared.Operand.{Operand}
 use Rattle.terms.specs.Domains.{Domain, Valuation}
 use Rattle.rules.specs.Books.{Goal, Book, heads}
@@ -118,7 +118,7 @@ module _ (book : Book) where
       where
         -- the same occurrence: it fits nothing, so it stands in the history
         same : (h' : ℕ) → get_or tuple h' 0 ≡ i → k ≡ k' → h ≡ h' → Covered book (active i (suc j) ∷ rest) hist k' tuple
-        same h' g ek eh = pickup (cases_bool (removes_nothing (rule_at book k'))) (mem_dec firing_discrete (k', tuple) hist)
+        same h' g ek eh = pickup (cases_Bool (removes_nothing (rule_at book k'))) (mem_dec firing_discrete (k', tuple) hist)
           where
             refute : ((removes_nothing (rule_at book k') ≡ true) × (firing k' tuple ∈ hist) → ⊥) → ⊥
             refute n = subst (λ (z : ℕ). Applies m book.arities store (rule_at book z) tuple → ((removes_nothing (rule_at book z) ≡ true) × (firing z tuple ∈ hist) → ⊥) → ⊥) ek (λ y z. none tuple y (subst (λ (q : ℕ). get_or tuple q 0 ≡ i) (sym eh) g) z) ap n

@@ -201,7 +201,7 @@ module _ {A B : Type 0} (T : Theory.Ghosts A) (P : PartnerTable.Ghosts B) where
   pub good_variable : (s t : Config A B) (x : ℕ) → Good T P s → VariableSays T s (Ok x) t → Good T P t
   good_variable s t x y (ref.makes l m ta bo wa hi po ne) = good_kept s t y bo (omega (arith, m.0)) (λ i r e. inl (ap (λ z. first (P.records z i)) (sym ta) ∙ e)) (λ g k. inl (subst (λ z. goal g ∈ z) wa k))
 
-  postable_known : (s : Config A B) → ((y : ℕ) → s.posted y ≡ true → y < (meaning T s).made) → (o : Operand) → Postable s.posted o → Known (meaning T s).made o
+  postable_known : (s : Config A B) → ((y : ℕ) → y ∈ s.posted → y < (meaning T s).made) → (o : Operand) → Postable s.posted o → Known (meaning T s).made o
   postable_known s posts (Value n) k = k
   postable_known s posts (Variable x) k = posts x k
 
@@ -209,7 +209,7 @@ module _ {A B : Type 0} (T : Theory.Ghosts A) (P : PartnerTable.Ghosts B) where
   parts_good s (tell p) k = k
   parts_good s (add c xs) k = (k.1, k.2)
 
-  pub good_post : (s t : Config A B) (kind symbol : ℕ) (xs : List Operand) → ((y : ℕ) → s.posted y ≡ true → y < (meaning T s).made) → Good T P s → PostSays T s kind symbol xs (Ok tt) t → Good T P t
+  pub good_post : (s t : Config A B) (kind symbol : ℕ) (xs : List Operand) → ((y : ℕ) → y ∈ s.posted → y < (meaning T s).made) → Good T P s → PostSays T s kind symbol xs (Ok tt) t → Good T P t
   good_post s t kind symbol xs posts x (ref.posts g c ps l e b) = good_kept s t x b.becomes.book (omega (arith, ap (λ z. (T.means z).made) b.theory)) (λ i r q. inl (ap (λ z. first (P.records z i)) (sym b.table) ∙ q)) (λ h m. new h (mem_append s.waiting (subst (λ z. goal h ∈ z) b.becomes.waiting m)))
     where
       fine : GoodGoal s.book (meaning T s).made g

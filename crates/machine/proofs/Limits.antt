@@ -14,7 +14,7 @@ use Rattle.machine.specs.Lists.{◌∈◌, there, Distinct}
 use Rattle.machine.specs.Matching.{Firing, gone}
 use Rattle.machine.specs.Sheets.{Entry, goal, wake, active, Config, StepAnswer, activated, Accepted, made_variable, posted_goal, Event, took, stepped}
 use Rattle.machine.specs.Refined as ref
-use Rattle.machine.specs.Refined.{meaning, living, rule_of, removes_nothing, names_any, with-variable, Becomes, Waits, HistoryFull, Opened, StepSays, VariableSays, PostSays}
+use Rattle.machine.specs.Refined.{meaning, living, rule_of, removes_nothing, names_any, Becomes, Waits, HistoryFull, Opened, StepSays, VariableSays, PostSays}
 use Rattle.machine.specs.Statements.{accepted, variables_of, given, Within}
 use Rattle.machine.proofs.Members.{mem_cases, mem_none, mem_left, mem_right, mem_append, here_at}
 use Rattle.machine.proofs.Unique.{none_some}
@@ -62,8 +62,8 @@ module _ {A B : Type 0} (T : Theory.Ghosts A) (P : PartnerTable.Ghosts B) where
     below = λ i m. absurd (mem_none m);
     lives = λ i r e. absurd (none_some (sym (ap (λ (t : Table). first (t i)) o.empty) ∙ e));
     one_each = λ i. subst (λ (t : Table). length (t i) ≤ 1) (sym o.empty) (omega arith);
-    variables = λ x. (λ e. absurd (both_ways (s.posted x) (ap (λ f. f x) o.posted) e), λ m. absurd (mem_none m));
-    made = λ x e. absurd (both_ways (s.posted x) (ap (λ f. f x) o.posted) e);
+    variables = o.posted;
+    made = λ x m. absurd (mem_none (subst (λ l. x ∈ l) o.posted m));
   }
 
   -- nothing is added to the table, and no identifier or variable is given to the caller
@@ -77,8 +77,8 @@ module _ {A B : Type 0} (T : Theory.Ghosts A) (P : PartnerTable.Ghosts B) where
     below = λ i m. let l = w.below i (subst (λ z. i ∈ z) ids m) in (l.0, omega (arith, next, l.1));
     lives = λ i r e. subst (λ z. i ∈ z) (sym ids) (lived i r e (fewer i));
     one_each = λ i. short i (fewer i);
-    variables = λ x. (λ e. subst (λ z. x ∈ z) (sym vars) ((w.variables x).0 (ap (λ f. f x) (sym posted) ∙ e)), λ m. ap (λ f. f x) posted ∙ (w.variables x).1 (subst (λ z. x ∈ z) vars m));
-    made = λ x e. omega (arith, made, w.made x (ap (λ f. f x) (sym posted) ∙ e));
+    variables = posted ∙ w.variables ∙ sym vars;
+    made = λ x m. omega (arith, made, w.made x (subst (λ l. x ∈ l) posted m));
   }
     where
       ids : given (es ++ fs) ≡ given es
@@ -113,8 +113,8 @@ module _ {A B : Type 0} (T : Theory.Ghosts A) (P : PartnerTable.Ghosts B) where
     below = λ i m. low i (mem_append (given es) (subst (λ z. i ∈ z) ids m));
     lives = λ i x q. subst (λ z. i ∈ z) (sym ids) (lived i x (added_cases s.next r (living P s) i x (sym (ap (λ z. z i) store) ∙ q)));
     one_each = λ i. subst (λ (z : Table). length (z i) ≤ 1) (sym f) (short i (eqb s.next i) (P.records s.table i) (w.one_each i));
-    variables = λ x. (λ q. subst (λ z. x ∈ z) (sym vars) ((w.variables x).0 (ap (λ z. z x) (sym b.posted) ∙ q)), λ m. ap (λ z. z x) b.posted ∙ (w.variables x).1 (subst (λ z. x ∈ z) vars m));
-    made = λ x q. omega (arith, ap (λ z. (T.means z).made) e, w.made x (ap (λ z. z x) (sym b.posted) ∙ q));
+    variables = b.posted ∙ w.variables ∙ sym vars;
+    made = λ x m. omega (arith, ap (λ z. (T.means z).made) e, w.made x (subst (λ l. x ∈ l) b.posted m));
   }
     where
       ids : given (es ++ (stepped (activated s.next) ps ∷ [])) ≡ given es ++ (s.next ∷ [])
@@ -184,34 +184,19 @@ module _ {A B : Type 0} (T : Theory.Ghosts A) (P : PartnerTable.Ghosts B) where
     below = λ i k. let z = w.below i (subst (λ z. i ∈ z) ids k) in (z.0, omega (arith, ne, z.1));
     lives = λ i r e. subst (λ z. i ∈ z) (sym ids) (w.lives i r (ap (λ z. first (P.records z i)) (sym ta) ∙ e));
     one_each = λ i. subst (λ z. length (P.records z i) ≤ 1) (sym ta) (w.one_each i);
-    variables = λ y. (λ e. subst (λ z. y ∈ z) (sym vars) (to y (eqb y n) refl (ap (λ f. f y) (sym po) ∙ e)), λ k. ap (λ f. f y) po ∙ from y (mem_append (variables_of (accepted es)) (subst (λ z. y ∈ z) vars k)));
-    made = λ y e. low y (eqb y n) refl (ap (λ f. f y) (sym po) ∙ e);
+    variables = po ∙ ap (λ l. l ++ ((meaning T s).made ∷ [])) w.variables ∙ sym vars;
+    made = λ y k. low y (mem_append s.posted (subst (λ l. y ∈ l) po k));
   }
     where
-      n : ℕ
-      n = (meaning T s).made
-
       ids : given (es ++ (took (made_variable (meaning T s).made) ∷ [])) ≡ given es
       ids = given_more es (took (made_variable (meaning T s).made) ∷ []) ∙ append-nil (given es)
 
       vars : variables_of (accepted (es ++ (took (made_variable (meaning T s).made) ∷ []))) ≡ variables_of (accepted es) ++ ((meaning T s).made ∷ [])
       vars = ap variables_of (accepted_more es (took (made_variable (meaning T s).made) ∷ [])) ∙ variables_more (accepted es) (made_variable (meaning T s).made ∷ [])
 
-      to : (y : ℕ) (b : Bool) → eqb y (meaning T s).made ≡ b → cond b true (s.posted y) ≡ true → y ∈ (variables_of (accepted es) ++ ((meaning T s).made ∷ []))
-      to y true q e = mem_right (variables_of (accepted es)) (here_at [] (eqb-true y (meaning T s).made q))
-      to y false q e = mem_left ((meaning T s).made ∷ []) ((w.variables y).0 e)
-
-      old : (y : ℕ) (b : Bool) → s.posted y ≡ true → cond b true (s.posted y) ≡ true
-      old y true e = refl
-      old y false e = e
-
-      from : (y : ℕ) → (y ∈ variables_of (accepted es)) ⊎ (y ∈ ((meaning T s).made ∷ [])) → with-variable s.posted (meaning T s).made y ≡ true
-      from y (inl k) = old y (eqb y (meaning T s).made) ((w.variables y).1 k)
-      from y (inr k) = elim (mem_cases k) [ inl q ↦ ap (λ b. cond b true (s.posted y)) (eq-eqb y (meaning T s).made q) | inr z ↦ absurd (mem_none z) ]
-
-      low : (y : ℕ) (b : Bool) → eqb y (meaning T s).made ≡ b → cond b true (s.posted y) ≡ true → y < (meaning T t).made
-      low y true q e = omega (arith, m.0, eqb-true y (meaning T s).made q)
-      low y false q e = omega (arith, m.0, w.made y e)
+      low : (y : ℕ) → (y ∈ s.posted) ⊎ (y ∈ ((meaning T s).made ∷ [])) → y < (meaning T t).made
+      low y (inl k) = omega (arith, m.0, w.made y k)
+      low y (inr k) = elim (mem_cases k) [ inl q ↦ omega (arith, m.0, q) | inr z ↦ absurd (mem_none z) ]
 
   pub limits_post : (es : List Event) (s t : Config A B) (kind symbol : ℕ) (xs : List Operand) (g : Goal Operand) → Within T P es s → PostSays T s kind symbol xs (Ok tt) t → Within T P (es ++ (took (posted_goal g) ∷ [])) t
   limits_post es s t kind symbol xs g w (ref.posts h c ps l e b) = limits_waits es _ s t (s.waiting ++ (goal h ∷ [])) w refl refl b (omega (arith, l, length-append s.waiting (goal h ∷ [])))

@@ -1,5 +1,5 @@
 -- What the postings mean is what a sheet still holds, across each call and step. Assumes nothing.
-use Rattle.std.proofs.Common.{◌≡◌, ℕ, suc, ◌+◌, ◌-◌, ◌<◌, ◌≤◌, Bool, true, false, cond, eqb, ltb, ◌↔◌, List, [], ◌∷◌, ◌++◌, map, length, Some, None, Ok, sym, refl, ap, ◌∙◌, subst, append-nil, arith}
+use Rattle.std.proofs.Common.{◌≡◌, ℕ, suc, ◌+◌, ◌-◌, ◌<◌, ◌≤◌, Bool, true, false, cond, eqb, ltb, ◌↔◌, ◌⊎◌, inl, inr, List, [], ◌∷◌, ◌++◌, map, length, Some, None, Ok, sym, refl, ap, ◌∙◌, subst, append-nil, arith}
 use mathlib.Core.Logic.Iff
 use Rattle.std.proofs.lemmas.Bool.{eqb-true, eq-eqb, cond-true, cond-false}
 use Rattle.terms.specs.declared.Operand.{Operand}
@@ -19,11 +19,11 @@ use Rattle.machine.specs.Lists.{◌∈◌, here}
 use Rattle.machine.specs.Matching.{no_rule, body_for, gone}
 use Rattle.machine.specs.Sheets.{Entry, goal, wake, active, Config, StepAnswer, Accepted, made_variable, posted_goal, Event, took, stepped}
 use Rattle.machine.specs.Refined as ref
-use Rattle.machine.specs.Refined.{with-variable, rule_of, Becomes, Waits, meaning, living, Turn, FirstFit, waiting_after, StepSays, Opened, VariableSays, Postable, goal_of, PostSays}
+use Rattle.machine.specs.Refined.{rule_of, Becomes, Waits, meaning, living, Turn, FirstFit, waiting_after, StepSays, Opened, VariableSays, Postable, goal_of, PostSays}
 use Rattle.machine.specs.Abstract.{pending_of}
 use Rattle.machine.specs.Readings.{Reading, Obeys, ObeysRule, GoalHolds, RecordHolds}
 use Rattle.machine.specs.Statements.{accepted, postings, Held}
-use Rattle.machine.proofs.Members.{getD_mem, all_map, all_append, all_parts, all_mem, all_from, memberb_in, memberb_not}
+use Rattle.machine.proofs.Members.{mem_cases, mem_none, mem_left, mem_append, getD_mem, all_map, all_append, all_parts, all_mem, all_from, memberb_in, memberb_not}
 use Rattle.machine.proofs.Unique.{none_some, some_inj}
 use Rattle.machine.proofs.Trails.{accepted_more, accepted_step}
 use Rattle.machine.proofs.Stores.{living_with, living_without}
@@ -56,7 +56,7 @@ module _ {A B : Type 0} (T : Theory.Ghosts A) (P : PartnerTable.Ghosts B) where
 
   -- the posted variables, what is admitted, what is pending and what lives stay
   held_same : (s t : Config A B) → t.posted ≡ s.posted → ((w : Valuation T.domain) → (meaning T s).admits w → (meaning T t).admits w) → pending_of t.waiting ≡ pending_of s.waiting → ((i : ℕ) → living P t i ≡ living P s i) → (R : Reading T.domain) (v : Valuation T.domain) → SomeHeld s R v → SomeHeld t R v
-  held_same s t p a q l R v h = (h.0, record { agrees = λ x e. h.1.agrees x (subst (λ f. f x ≡ true) p e); admitted = a h.0 h.1.admitted; pending = subst (All (GoalHolds T.domain R h.0)) (sym q) h.1.pending; alive = λ i r e. h.1.alive i r (sym (l i) ∙ e) })
+  held_same s t p a q l R v h = (h.0, record { agrees = λ x e. h.1.agrees x (subst (λ l. x ∈ l) p e); admitted = a h.0 h.1.admitted; pending = subst (All (GoalHolds T.domain R h.0)) (sym q) h.1.pending; alive = λ i r e. h.1.alive i r (sym (l i) ∙ e) })
 
   -- what holds of known goals and constraints holds where the made variables have the same values
   still_pending : (s : Config A B) → Good T P s → (R : Reading T.domain) (w u : Valuation T.domain) → ((x : ℕ) → x < (meaning T s).made → w x ≡ u x) → All (GoalHolds T.domain R w) (pending_of s.waiting) → All (GoalHolds T.domain R u) (pending_of s.waiting)
@@ -69,7 +69,7 @@ module _ {A B : Type 0} (T : Theory.Ghosts A) (P : PartnerTable.Ghosts B) where
   meant_opened book s o R ob v sv = (λ a. (v, record { agrees = λ x e. refl; admitted = (o.clear.1 v).1 sv; pending = subst (λ w. All (GoalHolds T.domain R v) (pending_of w)) (sym o.waiting) tt; alive = λ i r e. absurd (none_some (sym (ap (λ q. first (q i)) o.empty) ∙ e)) }), λ h. tt)
 
   -- a variable more, which has the value that it was given
-  made_held : (s t : Config A B) → Lawful T.means T.capacity → Good T P s → ((y : ℕ) → s.posted y ≡ true → y < (meaning T s).made) → Made (meaning T s) 1 (meaning T t) → t.table ≡ s.table → t.waiting ≡ s.waiting → t.posted ≡ with-variable s.posted (meaning T s).made → HeldToo s t
+  made_held : (s t : Config A B) → Lawful T.means T.capacity → Good T P s → ((y : ℕ) → y ∈ s.posted → y < (meaning T s).made) → Made (meaning T s) 1 (meaning T t) → t.table ≡ s.table → t.waiting ≡ s.waiting → t.posted ≡ s.posted ++ ((meaning T s).made ∷ []) → HeldToo s t
   made_held s t lawful good known made table waiting posted R o v sv = (to, from)
     where
       n : ℕ
@@ -90,25 +90,21 @@ module _ {A B : Type 0} (T : Theory.Ghosts A) (P : PartnerTable.Ghosts B) where
           new : u n ≡ v n
           new = let z : n + 0 ≡ n = omega arith in subst (λ (k : ℕ). u k ≡ v n) z (put_new T.domain h.0 n (v n ∷ []) (v n) 0 (omega arith))
 
-          pass : (x : ℕ) (b : Bool) → eqb x n ≡ b → cond b true (s.posted x) ≡ true → u x ≡ v x
-          pass x true e k = subst (λ z. u z ≡ v z) (sym (eqb-true x n e)) new
-          pass x false e k = sym (keeps x (known x k)) ∙ h.1.agrees x k
+          pass : (x : ℕ) → (x ∈ s.posted) ⊎ (x ∈ (n ∷ [])) → u x ≡ v x
+          pass x (inl k) = sym (keeps x (known x k)) ∙ h.1.agrees x k
+          pass x (inr k) = elim (mem_cases k) [ inl q ↦ subst (λ z. u z ≡ v z) (sym q) new | inr z ↦ absurd (mem_none z) ]
 
-          agrees' : (x : ℕ) → t.posted x ≡ true → u x ≡ v x
-          agrees' x e = pass x (eqb x n) refl (subst (λ f. f x ≡ true) posted e)
+          agrees' : (x : ℕ) → x ∈ t.posted → u x ≡ v x
+          agrees' x e = pass x (mem_append s.posted (subst (λ l. x ∈ l) posted e))
 
       from : SomeHeld t R v → SomeHeld s R v
-      from h = (h.0, record { agrees = λ x e. h.1.agrees x (subst (λ f. f x ≡ true) (sym posted) (old x (eqb x n) e)); admitted = (made.1 h.0).0 h.1.admitted; pending = subst (λ w. All (GoalHolds T.domain R h.0) (pending_of w)) waiting h.1.pending; alive = λ i r e. h.1.alive i r (same_living s t table i ∙ e) })
-        where
-          old : (x : ℕ) (b : Bool) → s.posted x ≡ true → cond b true (s.posted x) ≡ true
-          old x true e = refl
-          old x false e = e
+      from h = (h.0, record { agrees = λ x e. h.1.agrees x (subst (λ l. x ∈ l) (sym posted) (mem_left (n ∷ []) e)); admitted = (made.1 h.0).0 h.1.admitted; pending = subst (λ w. All (GoalHolds T.domain R h.0) (pending_of w)) waiting h.1.pending; alive = λ i r e. h.1.alive i r (same_living s t table i ∙ e) })
 
-  pub meant_variable : (s t : Config A B) (es : List Event) (x : ℕ) → Lawful T.means T.capacity → Good T P s → ((y : ℕ) → s.posted y ≡ true → y < (meaning T s).made) → VariableSays T s (Ok x) t → MeantAt es s → MeantAt (es ++ (took (made_variable x) ∷ [])) t
+  pub meant_variable : (s t : Config A B) (es : List Event) (x : ℕ) → Lawful T.means T.capacity → Good T P s → ((y : ℕ) → y ∈ s.posted → y < (meaning T s).made) → VariableSays T s (Ok x) t → MeantAt es s → MeantAt (es ++ (took (made_variable x) ∷ [])) t
   meant_variable s t es x lawful good known (ref.makes less made table book waiting history posted next) m = carried s t es (es ++ (took (made_variable (meaning T s).made) ∷ [])) book (ap postings (accepted_more es (took (made_variable (meaning T s).made) ∷ [])) ∙ postings_more (accepted es) (made_variable (meaning T s).made ∷ []) ∙ append-nil (postings (accepted es))) (made_held s t lawful good known made table waiting posted) m
 
   -- a posted variable has its value in every valuation that agrees on those
-  posted_same : (s : Config A B) (v w : Valuation T.domain) → ((x : ℕ) → s.posted x ≡ true → w x ≡ v x) → (a : Operand) → Postable s.posted a → worth T.domain w a ≡ worth T.domain v a
+  posted_same : (s : Config A B) (v w : Valuation T.domain) → ((x : ℕ) → x ∈ s.posted → w x ≡ v x) → (a : Operand) → Postable s.posted a → worth T.domain w a ≡ worth T.domain v a
   posted_same s v w f (Value n) k = refl
   posted_same s v w f (Variable x) k = f x k
 
@@ -124,20 +120,20 @@ module _ {A B : Type 0} (T : Theory.Ghosts A) (P : PartnerTable.Ghosts B) where
       pends : pending_of t.waiting ≡ pending_of s.waiting ++ (g ∷ [])
       pends = ap pending_of w.becomes.waiting ∙ pending_append s.waiting (goal f ∷ []) ∙ ap (λ z. pending_of s.waiting ++ (z ∷ [])) (some_inj (sym e ∙ e'))
 
-      same : (u : Valuation T.domain) → ((x : ℕ) → s.posted x ≡ true → u x ≡ v x) → EachOperand (λ a. worth T.domain u a ≡ worth T.domain v a) g
+      same : (u : Valuation T.domain) → ((x : ℕ) → x ∈ s.posted → u x ≡ v x) → EachOperand (λ a. worth T.domain u a ≡ worth T.domain v a) g
       same u h = posting_operands (λ a. worth T.domain u a ≡ worth T.domain v a) s.book kind symbol xs g counted.declared counted.counted (all_map (Postable s.posted) (λ a. worth T.domain u a ≡ worth T.domain v a) (posted_same s v u h) xs good) e'
 
       to : All (GoalHolds T.domain R v) (postings (accepted es) ++ (g ∷ [])) → SomeHeld t R v
       to a = put_last (all_parts (GoalHolds T.domain R v) (postings (accepted es)) (g ∷ []) a)
         where
           put_last : All (GoalHolds T.domain R v) (postings (accepted es)) × All (GoalHolds T.domain R v) (g ∷ []) → SomeHeld t R v
-          put_last q = let h = (m R o' v sv).0 q.0 in (h.0, record { agrees = λ x k. h.1.agrees x (subst (λ z. z x ≡ true) w.becomes.posted k); admitted = subst (λ z. (T.means z).admits h.0) (sym w.theory) h.1.admitted; pending = subst (All (GoalHolds T.domain R h.0)) (sym pends) (all_append (GoalHolds T.domain R h.0) (pending_of s.waiting) (g ∷ []) h.1.pending (goal_same T.domain R v h.0 g (each_operand _ (λ a. worth T.domain v a ≡ worth T.domain h.0 a) (λ a k. sym k) g (same h.0 h.1.agrees)) q.1.0, tt)); alive = λ i r k. h.1.alive i r (sym (same_living s t w.table i) ∙ k) })
+          put_last q = let h = (m R o' v sv).0 q.0 in (h.0, record { agrees = λ x k. h.1.agrees x (subst (λ z. x ∈ z) w.becomes.posted k); admitted = subst (λ z. (T.means z).admits h.0) (sym w.theory) h.1.admitted; pending = subst (All (GoalHolds T.domain R h.0)) (sym pends) (all_append (GoalHolds T.domain R h.0) (pending_of s.waiting) (g ∷ []) h.1.pending (goal_same T.domain R v h.0 g (each_operand _ (λ a. worth T.domain v a ≡ worth T.domain h.0 a) (λ a k. sym k) g (same h.0 h.1.agrees)) q.1.0, tt)); alive = λ i r k. h.1.alive i r (sym (same_living s t w.table i) ∙ k) })
 
       from : SomeHeld t R v → All (GoalHolds T.domain R v) (postings (accepted es) ++ (g ∷ []))
       from h = take_last (all_parts (GoalHolds T.domain R h.0) (pending_of s.waiting) (g ∷ []) (subst (All (GoalHolds T.domain R h.0)) pends h.1.pending))
         where
-          agrees' : (x : ℕ) → s.posted x ≡ true → h.0 x ≡ v x
-          agrees' x k = h.1.agrees x (subst (λ z. z x ≡ true) (sym w.becomes.posted) k)
+          agrees' : (x : ℕ) → x ∈ s.posted → h.0 x ≡ v x
+          agrees' x k = h.1.agrees x (subst (λ z. x ∈ z) (sym w.becomes.posted) k)
 
           take_last : All (GoalHolds T.domain R h.0) (pending_of s.waiting) × All (GoalHolds T.domain R h.0) (g ∷ []) → All (GoalHolds T.domain R v) (postings (accepted es) ++ (g ∷ []))
           take_last q = all_append (GoalHolds T.domain R v) (postings (accepted es)) (g ∷ []) ((m R o' v sv).1 (h.0, record { agrees = agrees'; admitted = subst (λ z. (T.means z).admits h.0) w.theory h.1.admitted; pending = q.0; alive = λ i r k. h.1.alive i r (same_living s t w.table i ∙ k) })) (goal_same T.domain R h.0 v g (same h.0 agrees') q.1.0, tt)
@@ -161,10 +157,10 @@ module _ {A B : Type 0} (T : Theory.Ghosts A) (P : PartnerTable.Ghosts B) where
       pends = ap pending_of b.waiting ∙ pending_woken is rest
 
       to : SomeHeld s R v → SomeHeld t R v
-      to h = let q = subst (λ l. All (GoalHolds T.domain R h.0) (pending_of l)) top h.1.pending in (h.0, record { agrees = λ x k. h.1.agrees x (subst (λ z. z x ≡ true) b.posted k); admitted = (same h.0).1 (h.1.admitted, q.0); pending = subst (All (GoalHolds T.domain R h.0)) (sym pends) q.1; alive = λ i r k. h.1.alive i r (sym (same_living s t table i) ∙ k) })
+      to h = let q = subst (λ l. All (GoalHolds T.domain R h.0) (pending_of l)) top h.1.pending in (h.0, record { agrees = λ x k. h.1.agrees x (subst (λ z. x ∈ z) b.posted k); admitted = (same h.0).1 (h.1.admitted, q.0); pending = subst (All (GoalHolds T.domain R h.0)) (sym pends) q.1; alive = λ i r k. h.1.alive i r (sym (same_living s t table i) ∙ k) })
 
       from : SomeHeld t R v → SomeHeld s R v
-      from h = let a = (same h.0).0 h.1.admitted in (h.0, record { agrees = λ x k. h.1.agrees x (subst (λ z. z x ≡ true) (sym b.posted) k); admitted = a.0; pending = subst (λ l. All (GoalHolds T.domain R h.0) (pending_of l)) (sym top) (a.1, subst (All (GoalHolds T.domain R h.0)) pends h.1.pending); alive = λ i r k. h.1.alive i r (same_living s t table i ∙ k) })
+      from h = let a = (same h.0).0 h.1.admitted in (h.0, record { agrees = λ x k. h.1.agrees x (subst (λ z. x ∈ z) (sym b.posted) k); admitted = a.0; pending = subst (λ l. All (GoalHolds T.domain R h.0) (pending_of l)) (sym top) (a.1, subst (All (GoalHolds T.domain R h.0)) pends h.1.pending); alive = λ i r k. h.1.alive i r (same_living s t table i ∙ k) })
 
   -- a constraint that was pending lives
   added_held : (s t : Config A B) (c : ℕ) (xs : List Operand) (rest : List Entry) → P.records s.table s.next ≡ [] → s.waiting ≡ goal (add c xs) ∷ rest → t.theory ≡ s.theory → P.records t.table ≡ with_record (P.records s.table) s.next (recorded c xs) → t.posted ≡ s.posted → pending_of t.waiting ≡ pending_of rest → HeldToo s t
@@ -174,7 +170,7 @@ module _ {A B : Type 0} (T : Theory.Ghosts A) (P : PartnerTable.Ghosts B) where
       lives i = ap (λ z. z i) (living_with P s t s.next (recorded c xs) fresh table)
 
       to : SomeHeld s R v → SomeHeld t R v
-      to h = (h.0, record { agrees = λ x k. h.1.agrees x (subst (λ z. z x ≡ true) posted k); admitted = subst (λ z. (T.means z).admits h.0) (sym theory) h.1.admitted; pending = subst (All (GoalHolds T.domain R h.0)) (sym pends) q.1; alive = λ i r k. each i r (eqb s.next i) (sym (lives i) ∙ k) })
+      to h = (h.0, record { agrees = λ x k. h.1.agrees x (subst (λ z. x ∈ z) posted k); admitted = subst (λ z. (T.means z).admits h.0) (sym theory) h.1.admitted; pending = subst (All (GoalHolds T.domain R h.0)) (sym pends) q.1; alive = λ i r k. each i r (eqb s.next i) (sym (lives i) ∙ k) })
         where
           q : All (GoalHolds T.domain R h.0) (add c xs ∷ pending_of rest)
           q = subst (λ l. All (GoalHolds T.domain R h.0) (pending_of l)) top h.1.pending
@@ -184,7 +180,7 @@ module _ {A B : Type 0} (T : Theory.Ghosts A) (P : PartnerTable.Ghosts B) where
           each i r false e = h.1.alive i r e
 
       from : SomeHeld t R v → SomeHeld s R v
-      from h = (h.0, record { agrees = λ x k. h.1.agrees x (subst (λ z. z x ≡ true) (sym posted) k); admitted = subst (λ z. (T.means z).admits h.0) theory h.1.admitted; pending = subst (λ l. All (GoalHolds T.domain R h.0) (pending_of l)) (sym top) (new, subst (All (GoalHolds T.domain R h.0)) pends h.1.pending); alive = λ i r k. each i r (eqb s.next i) refl k })
+      from h = (h.0, record { agrees = λ x k. h.1.agrees x (subst (λ z. x ∈ z) (sym posted) k); admitted = subst (λ z. (T.means z).admits h.0) theory h.1.admitted; pending = subst (λ l. All (GoalHolds T.domain R h.0) (pending_of l)) (sym top) (new, subst (All (GoalHolds T.domain R h.0)) pends h.1.pending); alive = λ i r k. each i r (eqb s.next i) refl k })
         where
           new : RecordHolds T.domain R h.0 (recorded c xs)
           new = h.1.alive s.next (recorded c xs) (lives s.next ∙ cond-true (eqb s.next s.next) (Some (recorded c xs)) (living P s s.next) (eq-eqb s.next s.next refl))
@@ -194,7 +190,7 @@ module _ {A B : Type 0} (T : Theory.Ghosts A) (P : PartnerTable.Ghosts B) where
           each i r false e k = h.1.alive i r (lives i ∙ cond-false (eqb s.next i) (Some (recorded c xs)) (living P s i) e ∙ k)
 
   -- a rule is applied
-  fired_held : (s t : Config A B) (rest : List Entry) (i j k h : ℕ) (tuple : List ℕ) → Lawful T.means T.capacity → Good T P s → ((y : ℕ) → s.posted y ≡ true → y < (meaning T s).made) → Turn T P s rest i j k h → FirstFit T P s k h i tuple → Made (meaning T s) (rule_of s k).fresh (meaning T t) → P.records t.table ≡ without (P.records s.table) (gone (rule_of s k) tuple) → t.posted ≡ s.posted → t.waiting ≡ waiting_after T P s (rule_of s k) tuple rest i j h → HeldToo s t
+  fired_held : (s t : Config A B) (rest : List Entry) (i j k h : ℕ) (tuple : List ℕ) → Lawful T.means T.capacity → Good T P s → ((y : ℕ) → y ∈ s.posted → y < (meaning T s).made) → Turn T P s rest i j k h → FirstFit T P s k h i tuple → Made (meaning T s) (rule_of s k).fresh (meaning T t) → P.records t.table ≡ without (P.records s.table) (gone (rule_of s k) tuple) → t.posted ≡ s.posted → t.waiting ≡ waiting_after T P s (rule_of s k) tuple rest i j h → HeldToo s t
   fired_held s t rest i j k h tuple lawful good known turn fit made table posted waiting R o v sv = (to, from)
     where
       r : Rule
@@ -228,7 +224,7 @@ module _ {A B : Type 0} (T : Theory.Ghosts A) (P : PartnerTable.Ghosts B) where
       to y = filled (body_holds T.domain s.book (meaning T s).made (living P s) good.records R r tuple (meaning T s) valid obeys fit.fits.applies y.0 (lawful.sensible s.theory y.0 y.1.admitted) y.1.admitted y.1.alive)
         where
           filled : ((fs : List T.domain.Worth) × All T.domain.Proper fs × All (GoalHolds T.domain R (put T.domain y.0 (meaning T s).made fs)) body) → SomeHeld t R v
-          filled f = (u, record { agrees = λ x e. let e' = subst (λ z. z x ≡ true) posted e in sym (keeps x (known x e')) ∙ y.1.agrees x e'; admitted = (made.1 u).1 (lawful.local s.theory y.0 u keeps sense y.1.admitted); pending = subst (All (GoalHolds T.domain R u)) (sym pends) (all_append (GoalHolds T.domain R u) body (pending_of s.waiting) f.2 (still_pending s good R y.0 u keeps y.1.pending)); alive = λ x z e. still_alive s good R y.0 u keeps y.1.alive x z (each x z (memberb x out) (sym (lives x) ∙ e)) })
+          filled f = (u, record { agrees = λ x e. let e' = subst (λ z. x ∈ z) posted e in sym (keeps x (known x e')) ∙ y.1.agrees x e'; admitted = (made.1 u).1 (lawful.local s.theory y.0 u keeps sense y.1.admitted); pending = subst (All (GoalHolds T.domain R u)) (sym pends) (all_append (GoalHolds T.domain R u) body (pending_of s.waiting) f.2 (still_pending s good R y.0 u keeps y.1.pending)); alive = λ x z e. still_alive s good R y.0 u keeps y.1.alive x z (each x z (memberb x out) (sym (lives x) ∙ e)) })
             where
               u : Valuation T.domain
               u = put T.domain y.0 (meaning T s).made f.0
@@ -244,7 +240,7 @@ module _ {A B : Type 0} (T : Theory.Ghosts A) (P : PartnerTable.Ghosts B) where
               each x z false e = e
 
       from : SomeHeld t R v → SomeHeld s R v
-      from y = (y.0, record { agrees = λ x e. y.1.agrees x (subst (λ z. z x ≡ true) (sym posted) e); admitted = admitted'; pending = goals.1; alive = λ x z e. each x z (memberb x out) refl e })
+      from y = (y.0, record { agrees = λ x e. y.1.agrees x (subst (λ z. x ∈ z) (sym posted) e); admitted = admitted'; pending = goals.1; alive = λ x z e. each x z (memberb x out) refl e })
         where
           admitted' : (meaning T s).admits y.0
           admitted' = (made.1 y.0).0 y.1.admitted
@@ -260,7 +256,7 @@ module _ {A B : Type 0} (T : Theory.Ghosts A) (P : PartnerTable.Ghosts B) where
           each x z false n e = kept x z n e
 
   -- every step
-  step_held : (s t : Config A B) (a : StepAnswer) → Lawful T.means T.capacity → Good T P s → ((y : ℕ) → s.posted y ≡ true → y < (meaning T s).made) → P.records s.table s.next ≡ [] → StepSays T P s a t → (t.book ≡ s.book) × HeldToo s t
+  step_held : (s t : Config A B) (a : StepAnswer) → Lawful T.means T.capacity → Good T P s → ((y : ℕ) → y ∈ s.posted → y < (meaning T s).made) → P.records s.table s.next ≡ [] → StepSays T P s a t → (t.book ≡ s.book) × HeldToo s t
   step_held s t a lawful good known fresh (ref.fails f) = (refl, stays s)
   step_held s t a lawful good known fresh (ref.ends st w) = (refl, stays s)
   step_held s t a lawful good known fresh (ref.tells p rest is st top w l told table b) = (b.book, told_held s t p rest is good top told table b)
@@ -278,5 +274,5 @@ module _ {A B : Type 0} (T : Theory.Ghosts A) (P : PartnerTable.Ghosts B) where
   step_held s t a lawful good known fresh (ref.full_variables rest i j k h tuple turn fit f l) = (refl, stays s)
   step_held s t a lawful good known fresh (ref.full_waiting rest i j k h tuple turn fit f l m) = (refl, stays s)
 
-  pub meant_step : (s t : Config A B) (es : List Event) (a : StepAnswer) (ps : List (Primitive Operand)) → Lawful T.means T.capacity → Good T P s → ((y : ℕ) → s.posted y ≡ true → y < (meaning T s).made) → P.records s.table s.next ≡ [] → StepSays T P s a t → MeantAt es s → MeantAt (es ++ (stepped a ps ∷ [])) t
+  pub meant_step : (s t : Config A B) (es : List Event) (a : StepAnswer) (ps : List (Primitive Operand)) → Lawful T.means T.capacity → Good T P s → ((y : ℕ) → y ∈ s.posted → y < (meaning T s).made) → P.records s.table s.next ≡ [] → StepSays T P s a t → MeantAt es s → MeantAt (es ++ (stepped a ps ∷ [])) t
   meant_step s t es a ps lawful good known fresh x m = let r = step_held s t a lawful good known fresh x in carried s t es (es ++ (stepped a ps ∷ [])) r.0 (ap postings (accepted_step es a ps)) r.1 m

@@ -57,6 +57,5 @@ module _ {A B : Type 0} (T : Theory.Ghosts A) (P : PartnerTable.Ghosts B) where
     throughout = λ before after e. let x = cut p before after e in (x.0, x.1, x.2, x.3, x.4, x.5, always_sound T P lawful book valid s x.0 before x.1 o x.3);
     one_answer = one_answer T P;
     done_is_exact = done_is_exact T P;
-    runs_count = runs_count T P;
     always = always_sound T P lawful book valid;
   }

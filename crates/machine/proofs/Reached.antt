@@ -271,7 +271,7 @@ module _ {A B : Type 0} (T : Theory.Ghosts A) (P : PartnerTable.Ghosts B) where
 
       nameable : (o : Operand) → Postable s.posted o → Nameable (accepted es) o
       nameable (Value n) k = k
-      nameable (Variable y) k = variable_called y (accepted es) ((within.variables y).0 k)
+      nameable (Variable y) k = variable_called y (accepted es) (subst (λ l. y ∈ l) within.variables k)
 
       fine : GoodPosting s.book (accepted es) g
       fine = parts_posting s.book (accepted es) g (posting_parts (Nameable (accepted es)) IsValue (λ n k. k) s.book kind symbol xs g c.declared c.counted (all_from (Nameable (accepted es)) xs (λ o k. nameable o (all_mem (Postable s.posted) ps k))) e')
