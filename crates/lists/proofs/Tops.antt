@@ -1,5 +1,6 @@
 -- The two ends of a list. Assumes nothing.
-use Rattle.std.proofs.Common.{◌≡◌, ℕ, ◌+◌, ◌-◌, ◌<◌, ◌≤◌, List, [], ◌∷◌, ◌++◌, map, length, get_or, drop, Some, None, Option, sym, refl, ap, ◌∙◌, not-suc-le-zero, arith, MatchOption}
+use Rattle.std.proofs.Common.{◌≡◌, ℕ, ◌+◌, ◌-◌, ◌<◌, ◌≤◌, List, [], ◌∷◌, ◌++◌, map, length, get_or, drop, Some, None, Option, sym, refl, ap, ◌∙◌, not-suc-le-zero, arith, OnSome, IfNone, IsSome, ◌↔◌, inl, inr}
+use Rattle.std.proofs.lemmas.Bool.{cases_lt}
 use Rattle.std.specs.List.{remove}
 use Rattle.std.proofs.lemmas.List.{drop_more, nil_from_length, drop-map, length-drop, length-map, map-append}
 use Rattle.table.specs.Lists.{first}
@@ -13,9 +14,12 @@ first_none f [] l = refl
 first_none f (y ∷ ys) l = absurd (not-suc-le-zero l)
 
 -- what a deque holds after its first item was asked for, by its items and its length
-pub tail_items : {Q X : Type 0} (items : Q → List X) (len : Q → ℕ) (q p : Q) (r : Option X) → len q ≡ length (items q) → MatchOption r ((len q ≤ 0) × (p ≡ q)) (λ y. (y ≡ get_or (items q) 0 y) × ((items p ≡ remove (items q) 0) × ((len p + 1 ≡ len q) × (0 < len q)))) → (items p ≡ drop 1 (items q)) × (len p ≡ len q - 1)
-tail_items items len q p None e k = let z = nil_from_length (items q) (omega (arith, k.0)) in (ap items k.1 ∙ z ∙ sym (ap (drop 1) z), omega (arith, ap len k.1, k.0))
-tail_items items len q p (Some y) e k = (k.1.0, omega (arith, k.1.1.0))
+pub tail_items : {Q X : Type 0} (items : Q → List X) (len : Q → ℕ) (q p : Q) (r : Option X) → len q ≡ length (items q) → OnSome r (items p ≡ remove (items q) 0) → OnSome r (len p + 1 ≡ len q) → IsSome r ↔ (0 < len q) → IfNone r (p ≡ q) → (items p ≡ drop 1 (items q)) × (len p ≡ len q - 1)
+tail_items items len q p None e gone fewer some same =
+    let z : len q ≤ 0 = elim (cases_lt 0 (len q)) [ inl l ↦ cc (some.1 l) | inr l ↦ l ] in
+    let n = nil_from_length (items q) (omega (arith, z)) in
+    (ap items same ∙ n ∙ sym (ap (drop 1) n), omega (arith, ap len same, z))
+tail_items items len q p (Some y) e gone fewer some same = (gone, omega (arith, fewer))
 
 -- one more of a list put on top of what was, from its last element on
 pub one_more_on_top : {A B : Type 0} (f : A → B) (ws : List A) (d : A) (i : ℕ) (prev rest : List B) → i < length ws → prev ≡ map f (drop (i + 1) ws) ++ rest → f (get_or ws i d) ∷ prev ≡ map f (drop i ws) ++ rest

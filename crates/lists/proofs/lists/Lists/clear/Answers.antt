@@ -8,6 +8,6 @@ pub returns : goal.returns
 returns c = record {
   waiting = ap (map entry_means) c.clear.ensures.items;
   history = ap (map firing_of) c.clear-2.ensures.items;
-  posted = fun_ext c.none-posted-self.ensures;
+  posted = fun_ext c.none_posted-self.ensures;
   next = refl;
 }

@@ -6,8 +6,8 @@ use Rattle.lists.proofs.lists.Lists.new.Goals as goal
 
 pub returns : goal.returns
 returns c = record {
-  waiting = ap (map entry_means) c.in-ok-waiting.ensures.items;
-  history = ap (map firing_of) c.in-ok-history.ensures.items;
-  posted = fun_ext c.none-posted.ensures;
+  waiting = ap (map entry_means) c.in_ok-waiting.ensures.items;
+  history = ap (map firing_of) c.in_ok-history.ensures.items;
+  posted = fun_ext c.none_posted.ensures;
   next = refl;
 }

@@ -5,8 +5,8 @@ use Rattle.lists.specs.Entries.{entry_means, goal_means, storable}
 use Rattle.lists.specs.Views.{waiting_of}
 use Rattle.lists.proofs.lists.Lists.push.Goals as goal
 
-pub add-top-requires : goal.add-top-requires
-add-top-requires c =
+pub add_top-requires : goal.add_top-requires
+add_top-requires c =
     let here = c.args.self.now in
     let both = and_parts (ltb (length (waiting_of here)) 512) (storable (goal_means c.args.goal)) (sym c.takes-taken.ensures ∙ c.if-taken.true) in
     record {

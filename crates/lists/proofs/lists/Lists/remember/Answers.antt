@@ -8,7 +8,7 @@ pub returns-then-len-lt-HISTORY : goal.returns-then-len-lt-HISTORY
 returns-then-len-lt-HISTORY c = record {
   room = λ _. record {
     waiting = refl;
-    history = map_push firing_of (vec_items c.args.self.now.history) (vec_items c.push-reserved.new.self) c.args.firing c.push-reserved.ensures.items;
+    history = map_push firing_of (vec_items c.args.self.now.history) (vec_items c.push_reserved.new.self) c.args.firing c.push_reserved.ensures.items;
     posted = refl;
     next = refl;
   };

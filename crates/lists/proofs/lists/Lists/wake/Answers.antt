@@ -6,23 +6,23 @@ use Rattle.lists.specs.Views.{woken_of}
 use Rattle.lists.proofs.Tops.{rest_length}
 use Rattle.lists.proofs.lists.Lists.wake.Goals as goal
 
-pub returns-then-saturating-sub-len-le-WAITING : goal.returns-then-saturating-sub-len-le-WAITING
-returns-then-saturating-sub-len-le-WAITING c =
+pub returns-then-saturating_sub-len-le-WAITING : goal.returns-then-saturating_sub-len-le-WAITING
+returns-then-saturating_sub-len-le-WAITING c =
     let here = c.args.self.now in record {
       room = λ _. record {
-        waiting = c.push-woken.ensures.items
-            ∙ ap (λ z. map wake z ++ entries_of c.take-top.new.waiting) c.as-slice.ensures.value
-            ∙ ap (λ z. map wake (woken_of here) ++ z) c.take-top.ensures.items;
+        waiting = c.push_woken.ensures.items
+            ∙ ap (λ z. map wake z ++ entries_of c.take_top.new.waiting) c.as_slice.ensures.value
+            ∙ ap (λ z. map wake (woken_of here) ++ z) c.take_top.ensures.items;
         history = refl;
         posted = refl;
         next = refl;
       };
-      crowded = λ h. absurd (omega (arith, h, rest_length entry_means (deque_items here.waiting), c.len.ensures, c.saturating-sub.ensures, c.len-2.ensures, c.if-saturating-sub-len-le-WAITING.true));
+      crowded = λ h. absurd (omega (arith, h, rest_length entry_means (deque_items here.waiting), c.len.ensures, c.saturating_sub.ensures, c.len-2.ensures, c.if-saturating_sub-len-le-WAITING.true));
     }
 
-pub returns-else-saturating-sub-len-le-WAITING : goal.returns-else-saturating-sub-len-le-WAITING
-returns-else-saturating-sub-len-le-WAITING c =
+pub returns-else-saturating_sub-len-le-WAITING : goal.returns-else-saturating_sub-len-le-WAITING
+returns-else-saturating_sub-len-le-WAITING c =
     let here = c.args.self.now in record {
-      room = λ h. absurd (omega (arith, h, rest_length entry_means (deque_items here.waiting), c.len.ensures, c.saturating-sub.ensures, c.len-2.ensures, c.if-saturating-sub-len-le-WAITING.false));
+      room = λ h. absurd (omega (arith, h, rest_length entry_means (deque_items here.waiting), c.len.ensures, c.saturating_sub.ensures, c.len-2.ensures, c.if-saturating_sub-len-le-WAITING.false));
       crowded = λ _. record { waiting = refl; history = refl; posted = refl; next = refl };
     }

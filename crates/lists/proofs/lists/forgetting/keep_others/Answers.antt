@@ -5,28 +5,28 @@ use Rattle.machine.specs.Refined.{names_any}
 use Rattle.machine.specs.Tuples.{ids, firing_of}
 use Rattle.lists.proofs.Keeps.{kept_by_map}
 use Rattle.lists.proofs.lists.forgetting.keep_others.Goals as goal
-use Rattle.lists.proofs.lists.forgetting.keep_others.Goals.{then-not-names-any, else-not-names-any}
+use Rattle.lists.proofs.lists.forgetting.keep_others.Goals.{then-not-names_any, else-not-names_any}
 
 pub loop-place-preserved : goal.loop-place-preserved
 loop-place-preserved c =
     let p : Firing → Bool = λ f. not (names_any c.args.gone.now (ids f.tuple)) in
     let xs = vec_items c.args.history.now in
     let l : c.loop-place.place < length (vec_items c.loop-place.history) = omega (arith, c.loop-place-test.true, c.len-place-end.ensures, c.loop-place.invariant.2) in
-    let named = sym (c.names-any.ensures ∙ ap (names_any c.args.gone.now) c.as-slice.ensures.value) in
-    elim c.if-not-names-any.branch [
-      | then-not-names-any w ↦ (
-        subst (λ n. FiltersInPlace p xs (vec_items c.if-not-names-any.history) n (c.loop-place.place + 1)) (sym w.count-is)
-            (subst (λ z. FiltersInPlace p xs z (c.loop-place.count + 1) (c.loop-place.place + 1)) (sym (ap vec_items w.history_is))
-            (FiltersInPlace-more_set c.loop-place.invariant.0 l (ap not (named ∙ w.if-not-names-any.true)) c.index.ensures)),
-        ap vec_capacity w.history_is ∙ c.loop-place.invariant.1,
-        ap vec_len w.history_is ∙ c.loop-place.invariant.2,
+    let named = sym (c.names_any.ensures ∙ ap (names_any c.args.gone.now) c.as_slice.ensures.value) in
+    elim c.if-not-names_any.branch [
+      | then-not-names_any w ↦ (
+        subst (λ n. FiltersInPlace p xs (vec_items c.if-not-names_any.history) n (c.loop-place.place + 1)) (sym w.count-is)
+            (subst (λ z. FiltersInPlace p xs z (c.loop-place.count + 1) (c.loop-place.place + 1)) (sym (ap vec_items w.history-is))
+            (FiltersInPlace-more_set c.loop-place.invariant.0 l (ap not (named ∙ w.if-not-names_any.true)) c.index.ensures)),
+        ap vec_capacity w.history-is ∙ c.loop-place.invariant.1,
+        ap vec_len w.history-is ∙ c.loop-place.invariant.2,
       )
-      | else-not-names-any w ↦ (
-        subst (λ n. FiltersInPlace p xs (vec_items c.if-not-names-any.history) n (c.loop-place.place + 1)) (sym w.count-is)
-            (subst (λ z. FiltersInPlace p xs z c.loop-place.count (c.loop-place.place + 1)) (sym (ap vec_items w.history_is))
-            (FiltersInPlace-more_no c.loop-place.invariant.0 l (ap not (named ∙ w.if-not-names-any.false)) c.index.ensures)),
-        ap vec_capacity w.history_is ∙ c.loop-place.invariant.1,
-        ap vec_len w.history_is ∙ c.loop-place.invariant.2,
+      | else-not-names_any w ↦ (
+        subst (λ n. FiltersInPlace p xs (vec_items c.if-not-names_any.history) n (c.loop-place.place + 1)) (sym w.count-is)
+            (subst (λ z. FiltersInPlace p xs z c.loop-place.count (c.loop-place.place + 1)) (sym (ap vec_items w.history-is))
+            (FiltersInPlace-more_no c.loop-place.invariant.0 l (ap not (named ∙ w.if-not-names_any.false)) c.index.ensures)),
+        ap vec_capacity w.history-is ∙ c.loop-place.invariant.1,
+        ap vec_len w.history-is ∙ c.loop-place.invariant.2,
       )
     ]
 

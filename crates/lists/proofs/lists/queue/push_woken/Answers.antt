@@ -21,10 +21,10 @@ loop-place-preserved c =
     let rest = entries_of c.args.waiting.now in
     let i = c.loop-place.place - 1 in
     let q : c.loop-place.place ≡ i + 1 = omega arith in (
-      ap (map entry_means) c.push-front-reserved.ensures.items
+      ap (map entry_means) c.push_front_reserved.ensures.items
           ∙ one_more_on_top wake ws 0 i (entries_of c.loop-place.waiting) rest (omega arith) (c.loop-place.invariant.0 ∙ ap (λ (n : ℕ). map wake (drop n ws) ++ rest) q),
-      omega (arith, c.push-front-reserved.ensures.len, c.loop-place.invariant.1),
-      c.push-front-reserved.ensures.capacity ∙ c.loop-place.invariant.2,
+      omega (arith, c.push_front_reserved.ensures.len, c.loop-place.invariant.1),
+      c.push_front_reserved.ensures.capacity ∙ c.loop-place.invariant.2,
       omega arith,
     )
 

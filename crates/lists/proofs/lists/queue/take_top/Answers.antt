@@ -8,7 +8,7 @@ use Rattle.lists.proofs.lists.queue.take_top.Goals as goal
 pub returns : goal.returns
 returns c =
     let before = c.args.waiting.now in
-    let t = tail_items deque_items deque_len before c.remove.new.self c.remove.result (omega arith) c.remove.ensures.cases in
+    let t = tail_items deque_items deque_len before c.remove.new.self c.remove.result (omega arith) c.remove.ensures.items c.remove.ensures.len c.remove.ensures.variant c.remove.ensures.unchanged in
     let e = map_tail entry_means (deque_items before) (deque_items c.remove.new.self) t.0 in
     record {
       items = e;

@@ -15,18 +15,18 @@ loop-identifier-preserved-after-len-lt-WAITING g c =
     let after = vec_items c.if-len-lt-WAITING.woken in
     elim c.if-len-lt-WAITING.branch [
       | then-len-lt-WAITING w ↦ (
-        collect_more m t fits c.loop-identifier.last c.loop-identifier.count c.in-Some.identifier items c.loop-identifier.invariant.0 c.in-Some.ensures c.if-is-unfixed.ensures (omega (arith, w.if-len-lt-WAITING.true)) after (ap vec_items w.woken-is ∙ w.push-reserved.ensures.items),
-        ap vec_capacity w.woken-is ∙ w.push-reserved.ensures.capacity ∙ c.loop-identifier.invariant.1,
+        collect_more m t fits c.loop-identifier.last c.loop-identifier.count c.in-Some.identifier items c.loop-identifier.invariant.0 c.in-Some.ensures c.if-is_unfixed.ensures (omega (arith, w.if-len-lt-WAITING.true)) after (ap vec_items w.woken-is ∙ w.push_reserved.ensures.items),
+        ap vec_capacity w.woken-is ∙ w.push_reserved.ensures.capacity ∙ c.loop-identifier.invariant.1,
       )
       | else-len-lt-WAITING w ↦ (
-        collect_past m t fits c.loop-identifier.last c.loop-identifier.count c.in-Some.identifier items c.loop-identifier.invariant.0 c.in-Some.ensures c.if-is-unfixed.ensures (omega (arith, w.if-len-lt-WAITING.false)) after (ap vec_items w.woken-is),
+        collect_past m t fits c.loop-identifier.last c.loop-identifier.count c.in-Some.identifier items c.loop-identifier.invariant.0 c.in-Some.ensures c.if-is_unfixed.ensures (omega (arith, w.if-len-lt-WAITING.false)) after (ap vec_items w.woken-is),
         ap vec_capacity w.woken-is ∙ c.loop-identifier.invariant.1,
       )
     ]
 
 pub loop-identifier-preserved : goal.loop-identifier-preserved
 loop-identifier-preserved g c = (
-  collect_rest (g.T.Theory.means c.args.theory.now) (g.P.PartnerTable.records c.args.table.now) (g.met.P.PartnerTable.fits c.args.table.now) c.loop-identifier.last c.loop-identifier.count c.in-Some.identifier (vec_items c.loop-identifier.woken) c.loop-identifier.invariant.0 c.in-Some.ensures c.if-is-unfixed.ensures,
+  collect_rest (g.T.Theory.means c.args.theory.now) (g.P.PartnerTable.records c.args.table.now) (g.met.P.PartnerTable.fits c.args.table.now) c.loop-identifier.last c.loop-identifier.count c.in-Some.identifier (vec_items c.loop-identifier.woken) c.loop-identifier.invariant.0 c.in-Some.ensures c.if-is_unfixed.ensures,
   c.loop-identifier.invariant.1,
 )
 
@@ -34,7 +34,7 @@ pub returns : goal.returns
 returns g c =
     let m = g.T.Theory.means c.args.theory.now in
     let t = g.P.PartnerTable.records c.args.table.now in
-    let all = collect_all m t c.loop-identifier.last c.loop-identifier.count (vec_items c.loop-identifier.woken) c.loop-identifier.invariant.0 c.in-default.ensures in
+    let all = collect_all m t c.loop-identifier.last c.loop-identifier.count (vec_items c.loop-identifier.woken) c.loop-identifier.invariant.0 c.in_default.ensures in
     record {
       found = all;
       kept = (
