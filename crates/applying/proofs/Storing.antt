@@ -4,7 +4,7 @@ use lib.Signed.{le_z}
 use Rattle.std.proofs.lemmas.List.{length-map}
 use Rattle.std.proofs.lemmas.Bool.{and_parts, and_from, lt-ltb, le-leb, cond_both}
 use Rattle.terms.specs.declared.Operand.{Operand}
-use Rattle.terms.specs.declared.Operand.TheVariants.{Value, Variable}
+use Rattle.terms.specs.declared.Operand.TheVariants.{Variable}
 use Rattle.terms.specs.declared.Term.{Term}
 use Rattle.terms.specs.declared.Term.TheVariants as term
 use Rattle.terms.specs.Lists.{All}

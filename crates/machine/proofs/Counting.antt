@@ -1,5 +1,5 @@
 -- A run counts the steps that it makes. Assumes nothing.
-use Rattle.std.proofs.Common.{◌≡◌, ℕ, zero, suc, ◌≤◌, List, [], ◌∷◌, length, refl, ap, arith}
+use Rattle.std.proofs.Common.{◌≡◌, ℕ, suc, ◌≤◌, List, length, refl, ap, arith}
 use Rattle.terms.specs.Lists.{All}
 use Rattle.theory.specs.declared.interface.Theory as Theory
 use Rattle.table.specs.declared.partner.PartnerTable as PartnerTable

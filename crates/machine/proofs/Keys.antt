@@ -1,5 +1,5 @@
 -- The key of a search misses nothing. Assumes nothing.
-use Rattle.std.proofs.Common.{◌≡◌, ℕ, zero, suc, ◌+◌, ◌-◌, ◌<◌, ◌≤◌, Bool, true, false, cond, ◌&&◌, eqb, ltb, leb, List, [], ◌∷◌, length, get_or, take, ℤ, pos, negsuc, Some, None, Option, sym, refl, ap, ◌∙◌, subst, not-suc-le-zero, arith}
+use Rattle.std.proofs.Common.{◌≡◌, ℕ, zero, suc, ◌+◌, ◌-◌, ◌<◌, Bool, true, false, cond, ◌&&◌, ltb, List, [], ◌∷◌, length, get_or, take, ℤ, pos, negsuc, Some, None, Option, sym, refl, ap, ◌∙◌, subst, not-suc-le-zero, arith}
 use lib.IntN.{ℤ_discrete}
 use lib.Signed.{le_z}
 use Rattle.std.specs.Option.{option_or}
@@ -12,16 +12,15 @@ use Rattle.terms.specs.declared.Primitive.{Primitive}
 use Rattle.terms.specs.declared.Primitive.TheVariants.{Same, Least, Most}
 use Rattle.terms.specs.Lists.{All}
 use Rattle.terms.specs.Domains.{Domain}
-use Rattle.rules.specs.Books.{Rule, heads, slot_count}
+use Rattle.rules.specs.Books.{heads, slot_count}
 use Rattle.theory.specs.declared.interface.Theory as Theory
 use Rattle.theory.specs.Meanings.{Meaning, Failed, Follows}
 use Rattle.table.specs.declared.partner.PartnerTable as PartnerTable
 use Rattle.table.specs.Lists.{nth}
-use Rattle.table.specs.Nexts.{has_key, key_is}
+use Rattle.table.specs.Nexts.{has_key}
 use Rattle.table.specs.Records.{Record, argument_of}
 use Rattle.machine.specs.Matching.{Store, arguments_of, head_slot, fill, fill_primitive}
-use Rattle.machine.specs.Sheets.{Config}
-use Rattle.machine.specs.Refined.{meaning, living, rule_of, Stands, Fits}
+use Rattle.machine.specs.Refined.{meaning, living, rule_of}
 use Rattle.machine.specs.Keys.{Filling, filled_argument, partial_slot, value_of, value_in, is_slot, tied_to, key_from, key_at, Agrees, KeyedPartners}
 use Rattle.machine.proofs.Unique.{none_some, some_inj, matches_length}
 

@@ -11,7 +11,6 @@ use Rattle.machine.specs.Refined as ref
 use Rattle.machine.specs.Refined.{Says, Plays, Opened}
 use Rattle.machine.specs.Statements.{Played}
 use Rattle.machine.proofs.Calling.{one_answer}
-use Rattle.machine.proofs.Counting.{runs_count}
 use Rattle.machine.proofs.Done.{done_is_exact}
 use Rattle.machine.proofs.Sound.{always_sound}
 

@@ -1,5 +1,5 @@
 -- Tuples that fit a rule, head by head. Assumes nothing.
-use Rattle.std.proofs.Common.{◌≡◌, ℕ, zero, suc, ◌+◌, ◌-◌, ◌<◌, ◌≤◌, true, false, ◌&&◌, ◌||◌, eqb, ◌⊎◌, List, [], ◌∷◌, ◌++◌, length, get_or, take, ℤ, Some, None, Option, sym, refl, ap, ◌∙◌, subst, inl, inr, not-suc-le-zero, arith}
+use Rattle.std.proofs.Common.{◌≡◌, ℕ, zero, suc, ◌<◌, ◌≤◌, true, false, eqb, ◌⊎◌, List, [], ◌∷◌, ◌++◌, length, get_or, take, ℤ, Some, Option, sym, refl, ap, subst, inl, inr, not-suc-le-zero, arith}
 use Rattle.std.proofs.lemmas.List.{append_assoc, length-append, take_all}
 use Rattle.std.proofs.lemmas.Bool.{eq-eqb, ne_eqb, and_from, or_left, both_ways}
 use Rattle.terms.specs.Lists.{All}
@@ -7,7 +7,7 @@ use Rattle.table.specs.Lists.{first, is_none}
 use Rattle.table.specs.Nexts.{has_key, answers, any_answers}
 use Rattle.table.specs.Records.{Record, symbol_of, fit}
 use Rattle.table.specs.Looks.{low_fit, high_fit}
-use Rattle.machine.specs.Lists.{◌∈◌, here, there, Distinct, NoLater}
+use Rattle.machine.specs.Lists.{◌∈◌, there, Distinct, NoLater}
 use Rattle.machine.specs.Matching.{Store, Matches, arguments_of}
 use Rattle.machine.proofs.Members.{mem_cases, mem_none, mem_right, mem_append, getD_mem, here_at}
 use Rattle.machine.proofs.Unique.{none_some, some_inj}

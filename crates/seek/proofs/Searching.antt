@@ -1,5 +1,5 @@
 -- The search for partners: what each turn of it shows. Assumes nothing.
-use Rattle.std.proofs.Common.{◌≡◌, ℕ, zero, suc, ◌+◌, ◌<◌, ◌≤◌, Bool, true, false, cond, eqb, ◌⊎◌, List, [], ◌∷◌, ◌++◌, length, get_or, take, ℤ, is_some, Some, None, Option, sym, refl, ap, ◌∙◌, subst, inl, inr, zero-le, not-suc-le-zero, arith}
+use Rattle.std.proofs.Common.{◌≡◌, ℕ, zero, suc, ◌+◌, ◌<◌, ◌≤◌, Bool, true, false, cond, eqb, ◌⊎◌, List, [], ◌∷◌, ◌++◌, length, get_or, ℤ, is_some, Some, None, Option, sym, refl, ap, ◌∙◌, subst, inl, inr, zero-le, not-suc-le-zero, arith}
 use Rattle.std.specs.Option.{option_map, option_or}
 use Rattle.std.proofs.lemmas.List.{append-nil, length-append, get_or_at, get_or_append_left, take_all}
 use Rattle.std.proofs.lemmas.Bool.{cases_order, cases_lt, cases_eq, true≢false, false≢true, both_ways, eqb-true}
@@ -13,8 +13,8 @@ use Rattle.theory.specs.Meanings.{Follows}
 use Rattle.table.specs.declared.partner.PartnerTable as PartnerTable
 use Rattle.table.specs.Lists.{nth}
 use Rattle.table.specs.Nexts.{has_key, any_answers, NextOf}
-use Rattle.table.specs.Records.{Record, symbol_of, fit}
-use Rattle.machine.specs.Lists.{◌∈◌, Distinct, NoLater}
+use Rattle.table.specs.Records.{symbol_of, fit}
+use Rattle.machine.specs.Lists.{◌∈◌, NoLater}
 use Rattle.machine.specs.Matching.{Matches, arguments_of, head_slot, fill_primitive}
 use Rattle.machine.specs.Sheets.{Config}
 use Rattle.machine.specs.Refined.{rule_of, meaning, living, removes_nothing, Fits}
@@ -22,7 +22,7 @@ use Rattle.machine.specs.Keys.{Agrees, key_at}
 use Rattle.machine.proofs.Keys.{keyed_partners}
 use Rattle.machine.proofs.Unique.{none_some, some_inj, matches_length}
 use Rattle.seek.specs.Fillings.{filler_at}
-use Rattle.seek.specs.Searches.{AtHead, Begun, Ready, Found, FirstFrom, MayFill, KeyFits, Searched}
+use Rattle.seek.specs.Searches.{AtHead, Begun, Ready, FirstFrom, MayFill, KeyFits, Searched}
 use Rattle.seek.proofs.Fitting.{first_answers, low_first, matches_next, matches_more, distinct_more, distinct_next, distinct_at, no_later_front, no_later_less, one_more}
 use Rattle.seek.proofs.Order.{in_order}
 

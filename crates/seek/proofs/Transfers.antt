@@ -1,14 +1,14 @@
 -- States with one book, history, theory and table have one answer to a search. Assumes nothing.
-use Rattle.std.proofs.Common.{◌≡◌, ℕ, true, List, length, sym, ap, subst}
+use Rattle.std.proofs.Common.{◌≡◌, ℕ, true, List, length, sym, subst}
 use Rattle.rules.specs.Books.{Book, heads}
 use Rattle.theory.specs.declared.interface.Theory as Theory
 use Rattle.table.specs.declared.partner.PartnerTable as PartnerTable
 use Rattle.table.specs.Lists.{first}
 use Rattle.machine.specs.Lists.{◌∈◌, NoLater}
-use Rattle.machine.specs.Matching.{Firing, Applies, rule_at}
+use Rattle.machine.specs.Matching.{Applies, rule_at}
 use Rattle.machine.specs.Occurrences.{search_order, sought}
 use Rattle.machine.specs.Sheets.{Config}
-use Rattle.machine.specs.Refined.{rule_of, removes_nothing, Fits, NoneFits, FirstFit}
+use Rattle.machine.specs.Refined.{removes_nothing, Fits, NoneFits, FirstFit}
 use Rattle.seek.specs.Searches.{Alike, ReadsAlone}
 
 module _ {A B : Type 0} where

@@ -13,7 +13,7 @@ use Rattle.table.specs.Records.{symbol_of}
 use Rattle.machine.specs.Lists.{◌∈◌, Distinct, NoLater}
 use Rattle.machine.specs.Matching.{Store, Firing, Matches, arguments_of, head_slot, fill_primitive}
 use Rattle.machine.specs.Sheets.{Config}
-use Rattle.machine.specs.Refined.{rule_of, meaning, living, Stands, no-variables, removes_nothing, Fits, NoneFits, FirstFit}
+use Rattle.machine.specs.Refined.{rule_of, meaning, living, Stands, removes_nothing, Fits, NoneFits, FirstFit}
 use Rattle.machine.specs.Tuples.{firing_of}
 use Rattle.seek.specs.Slots.{slot_in}
 use Rattle.seek.specs.declared.partners.Search.{Search}
@@ -22,7 +22,7 @@ use Rattle.seek.specs.declared.slots.Slots.{Slots}
 module _ {A B : Type 0} where
   -- a state with that book, history, theory and table, in which nothing waits
   abbrev pub reading : Book → List Firing → A → B → Config A B
-  reading b h a t = record { book = b; waiting = []; history = h; posted = no-variables; next = 0; theory = a; table = t }
+  reading b h a t = record { book = b; waiting = []; history = h; posted = []; next = 0; theory = a; table = t }
 
   -- the state that is read
   abbrev pub view : Search A B → Config A B

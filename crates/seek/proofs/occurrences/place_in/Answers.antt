@@ -1,4 +1,4 @@
-use Rattle.std.proofs.Common.{◌≡◌, ℕ, ◌+◌, ◌-◌, ◌<◌, ◌≤◌, List, ◌++◌, length, get_or, take, sym, ap, ◌∙◌, arith}
+use Rattle.std.proofs.Common.{◌≡◌, ℕ, ◌+◌, ◌-◌, ◌++◌, length, take, sym, ap, ◌∙◌, arith}
 use Rattle.table.specs.Lists.{nth}
 use Rattle.std.proofs.lemmas.List.{take_all}
 use Rattle.machine.specs.Occurrences.{places_from}

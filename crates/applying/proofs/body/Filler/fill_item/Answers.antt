@@ -7,4 +7,4 @@ use Rattle.applying.proofs.body.Filler.fill_item.Goals as goal
 pub returns-in-Add : goal.returns-in-Add
 returns-in-Add g c n h valid =
     let f = c.args.self.now in
-    constraint_filled (argument_counts f) (loaded_short f.slots.rules.now) (operand_at g.P.PartnerTable f) n c.args.item.now c.in-Add.symbol c.in-Add.arguments c.in-Add.is valid c.deref.result.now c.deref.ensures.value (arguments_list c.fill-arguments.result) (c.fill-arguments.ensures n h)
+    constraint_filled (argument_counts f) (loaded_short f.slots.rules.now) (operand_at g.P.PartnerTable f) n c.args.item.now c.in-Add.symbol c.in-Add.arguments c.in-Add.is valid c.deref.result.now c.deref.ensures.value (arguments_list c.fill_arguments.result) (c.fill_arguments.ensures n h)

@@ -39,7 +39,7 @@ loop-place-preserved g c n h =
     let e : goal_of x ≡ get_or gs i (goal_of x) = mapped_at goal_of items i x l c.index-items-place.is in
     let v : GoalValid (argument_counts f) n (goal_of x) = subst (GoalValid (argument_counts f) n) (sym e) (all_at (GoalValid (argument_counts f) n) gs i (goal_of x) lg h.valid) in
     let before = subst (λ (k : ℕ). Waits here c.loop-place.lists (topped (operand_at P f) gs rest k)) q (c.loop-place.invariant n h) in
-    pushed_more (operand_at P f) gs rest here c.loop-place.lists c.push.new.self i (goal_of x) (goal_means c.fill-item.result) c.push.result lg e (c.fill-item.ensures n h.numbered v) (item_storable P g.met.P.PartnerTable.fits f n (goal_of x) v) h.room before c.push.ensures.value c.push.ensures.after
+    pushed_more (operand_at P f) gs rest here c.loop-place.lists c.push.new.self i (goal_of x) (goal_means c.fill_item.result) c.push.result lg e (c.fill_item.ensures n h.numbered v) (item_storable P g.met.P.PartnerTable.fits f n (goal_of x) v) h.room before c.push.ensures.value c.push.ensures.after
 
 pub returns : goal.returns
 returns g c n h =

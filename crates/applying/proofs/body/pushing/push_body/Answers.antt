@@ -14,12 +14,12 @@ pub returns : goal.returns
 returns g c fits =
     let arities = (rules_book c.args.rules.now).arities in
     let r = rule_of c.args.rule.now in
-    let hs = c.as-slice.result.now in
+    let hs = c.as_slice.result.now in
     let items = c.deref.result.now in
-    let e : hs ≡ heads r = c.as-slice.ensures.value ∙ heads_are c.args.rule.now in
+    let e : hs ≡ heads r = c.as_slice.ensures.value ∙ heads_are c.args.rule.now in
     let q : map goal_of items ≡ r.body = ap (map goal_of) c.deref.ensures.value in
-    body_pushed arities (store_in g.P.PartnerTable c.args.table.now) r (ids c.args.tuple) c.args.made hs (map goal_of items) c.args.lists.now c.push-items.new.lists e q
-    (c.push-items.ensures (slot_count arities (heads r) + r.fresh)
+    body_pushed arities (store_in g.P.PartnerTable c.args.table.now) r (ids c.args.tuple) c.args.made hs (map goal_of items) c.args.lists.now c.push_items.new.lists e q
+    (c.push_items.ensures (slot_count arities (heads r) + r.fresh)
     (record {
       numbered = record { few_heads = omega (arith, ap length e, fits.valid.few_heads); small = omega (arith, ap (slot_count arities) e, fits.numbered) };
       valid = subst (All (GoalValid arities (slot_count arities (heads r) + r.fresh))) (sym q) fits.valid.body;

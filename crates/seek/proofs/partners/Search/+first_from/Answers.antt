@@ -12,89 +12,89 @@ use Rattle.seek.proofs.partners.Search.+first_from.Goals as goal
 
 pub returns-then-ready : goal.returns-then-ready
 returns-then-ready g t c b =
-    let eq : c.as-slice-heads.result.now ≡ heads (rule_of c.args.rule.now) = c.as-slice-heads.ensures.value ∙ heads_are c.args.rule.now in
-    let le : length (heads (rule_of c.args.rule.now)) ≤ length (ids c.args.tuple) = omega (arith, ap length eq, ap length c.as-slice-place.ensures.value, c.if-place-heads.true) in
+    let eq : c.as_slice-heads.result.now ≡ heads (rule_of c.args.rule.now) = c.as_slice-heads.ensures.value ∙ heads_are c.args.rule.now in
+    let le : length (heads (rule_of c.args.rule.now)) ≤ length (ids c.args.tuple) = omega (arith, ap length eq, ap length c.as_slice-place.ensures.value, c.if-place-heads.true) in
     filled_some g.T.Theory g.P.PartnerTable (view c.args.self.now) c.args.number c.args.head c.args.active (rule_of c.args.rule.now) (ids c.args.tuple) b le c.if-ready.ensures
 
 pub returns-else-ready : goal.returns-else-ready
 returns-else-ready g t c b =
-    let eq : c.as-slice-heads.result.now ≡ heads (rule_of c.args.rule.now) = c.as-slice-heads.ensures.value ∙ heads_are c.args.rule.now in
-    let le : length (heads (rule_of c.args.rule.now)) ≤ length (ids c.args.tuple) = omega (arith, ap length eq, ap length c.as-slice-place.ensures.value, c.if-place-heads.true) in
+    let eq : c.as_slice-heads.result.now ≡ heads (rule_of c.args.rule.now) = c.as_slice-heads.ensures.value ∙ heads_are c.args.rule.now in
+    let le : length (heads (rule_of c.args.rule.now)) ≤ length (ids c.args.tuple) = omega (arith, ap length eq, ap length c.as_slice-place.ensures.value, c.if-place-heads.true) in
     filled_none g.T.Theory g.P.PartnerTable (view c.args.self.now) c.args.number c.args.head c.args.active (rule_of c.args.rule.now) (ids c.args.tuple) b le c.if-ready.ensures
 
-pub first-from-requires : goal.first-from-requires
-first-from-requires g t c κs within =
-    let eq : c.as-slice-heads.result.now ≡ heads (rule_of c.args.rule.now) = c.as-slice-heads.ensures.value ∙ heads_are c.args.rule.now in
-    let lt : length (ids c.args.tuple) < length (heads (rule_of c.args.rule.now)) = omega (arith, ap length eq, ap length c.as-slice-place.ensures.value, c.if-place-heads.false) in
+pub first_from-requires : goal.first_from-requires
+first_from-requires g t c κs within =
+    let eq : c.as_slice-heads.result.now ≡ heads (rule_of c.args.rule.now) = c.as_slice-heads.ensures.value ∙ heads_are c.args.rule.now in
+    let lt : length (ids c.args.tuple) < length (heads (rule_of c.args.rule.now)) = omega (arith, ap length eq, ap length c.as_slice-place.ensures.value, c.if-place-heads.false) in
     let wi : ids c.with.result ≡ (ids c.args.tuple) ++ (c.args.active ∷ []) = c.with.ensures ∙ with_more (ids c.args.tuple) c.args.active (omega (arith, lt, c.requires)) in
     let f : 3 - length (ids c.with.result) < 3 - length (ids c.args.tuple) = omega (arith, ap length wi, length_push (ids c.args.tuple) c.args.active, lt, c.requires) in
     (subst (λ (n : ℕ). 3 - length (ids c.with.result) < n) c.decreases f, (within.0, (within.1, c.requires)))
 
 pub returns-then-has : goal.returns-then-has
 returns-then-has g t c b =
-    let eq : c.as-slice-heads.result.now ≡ heads (rule_of c.args.rule.now) = c.as-slice-heads.ensures.value ∙ heads_are c.args.rule.now in
-    let lt : length (ids c.args.tuple) < length (heads (rule_of c.args.rule.now)) = omega (arith, ap length eq, ap length c.as-slice-place.ensures.value, c.if-place-heads.false) in
-    let at : length (ids c.args.tuple) ≡ c.args.head = sym (ap length c.as-slice-place.ensures.value) ∙ c.if-place-head.true in
+    let eq : c.as_slice-heads.result.now ≡ heads (rule_of c.args.rule.now) = c.as_slice-heads.ensures.value ∙ heads_are c.args.rule.now in
+    let lt : length (ids c.args.tuple) < length (heads (rule_of c.args.rule.now)) = omega (arith, ap length eq, ap length c.as_slice-place.ensures.value, c.if-place-heads.false) in
+    let at : length (ids c.args.tuple) ≡ c.args.head = sym (ap length c.as_slice-place.ensures.value) ∙ c.if-place-head.true in
     active_twice g.T.Theory g.P.PartnerTable (view c.args.self.now) c.args.number c.args.head c.args.active (rule_of c.args.rule.now) (ids c.args.tuple) b lt at c.if-has.ensures
 
 pub returns-else-has : goal.returns-else-has
 returns-else-has g t c b =
-    let eq : c.as-slice-heads.result.now ≡ heads (rule_of c.args.rule.now) = c.as-slice-heads.ensures.value ∙ heads_are c.args.rule.now in
-    let lt : length (ids c.args.tuple) < length (heads (rule_of c.args.rule.now)) = omega (arith, ap length eq, ap length c.as-slice-place.ensures.value, c.if-place-heads.false) in
-    let at : length (ids c.args.tuple) ≡ c.args.head = sym (ap length c.as-slice-place.ensures.value) ∙ c.if-place-head.true in
+    let eq : c.as_slice-heads.result.now ≡ heads (rule_of c.args.rule.now) = c.as_slice-heads.ensures.value ∙ heads_are c.args.rule.now in
+    let lt : length (ids c.args.tuple) < length (heads (rule_of c.args.rule.now)) = omega (arith, ap length eq, ap length c.as_slice-place.ensures.value, c.if-place-heads.false) in
+    let at : length (ids c.args.tuple) ≡ c.args.head = sym (ap length c.as_slice-place.ensures.value) ∙ c.if-place-head.true in
     let wi : ids c.with.result ≡ (ids c.args.tuple) ++ (c.args.active ∷ []) = c.with.ensures ∙ with_more (ids c.args.tuple) c.args.active (omega (arith, lt, c.requires)) in
-    active_found g.T.Theory g.P.PartnerTable (view c.args.self.now) c.args.number c.args.head c.args.active (rule_of c.args.rule.now) (ids c.args.tuple) b lt at (option_map ids c.first-from.result) (subst (λ z. FirstFrom g.T.Theory g.P.PartnerTable (view c.args.self.now) c.args.number c.args.head c.args.active z (option_map ids c.first-from.result)) wi (c.first-from.ensures (subst (Begun g.T.Theory g.P.PartnerTable (view c.args.self.now) c.args.number c.args.head c.args.active (rule_of c.args.rule.now)) (sym wi) (active_begun g.T.Theory g.P.PartnerTable (view c.args.self.now) c.args.number c.args.head c.args.active (rule_of c.args.rule.now) (ids c.args.tuple) b lt at c.if-has.ensures))))
+    active_found g.T.Theory g.P.PartnerTable (view c.args.self.now) c.args.number c.args.head c.args.active (rule_of c.args.rule.now) (ids c.args.tuple) b lt at (option_map ids c.first_from.result) (subst (λ z. FirstFrom g.T.Theory g.P.PartnerTable (view c.args.self.now) c.args.number c.args.head c.args.active z (option_map ids c.first_from.result)) wi (c.first_from.ensures (subst (Begun g.T.Theory g.P.PartnerTable (view c.args.self.now) c.args.number c.args.head c.args.active (rule_of c.args.rule.now)) (sym wi) (active_begun g.T.Theory g.P.PartnerTable (view c.args.self.now) c.args.number c.args.head c.args.active (rule_of c.args.rule.now) (ids c.args.tuple) b lt at c.if-has.ensures))))
 
 pub loop-identifier-init : goal.loop-identifier-init
 loop-identifier-init g t c b = passed_none g.T.Theory g.P.PartnerTable (view c.args.self.now) c.args.number c.args.head c.args.active (g.met.P.PartnerTable.fits c.args.self.now.table.now) (ids c.args.tuple)
 
-pub first-from-found-requires : goal.first-from-found-requires
-first-from-found-requires g t c κs within =
-    let eq : c.as-slice-heads.result.now ≡ heads (rule_of c.args.rule.now) = c.as-slice-heads.ensures.value ∙ heads_are c.args.rule.now in
-    let lt : length (ids c.args.tuple) < length (heads (rule_of c.args.rule.now)) = omega (arith, ap length eq, ap length c.as-slice-place.ensures.value, c.if-place-heads.false) in
-    let wi : ids c.with-then-may-fill.result ≡ (ids c.args.tuple) ++ (c.in-Some.identifier ∷ []) = c.with-then-may-fill.ensures ∙ with_more (ids c.args.tuple) c.in-Some.identifier (omega (arith, lt, c.requires)) in
-    let f : 3 - length (ids c.with-then-may-fill.result) < 3 - length (ids c.args.tuple) = omega (arith, ap length wi, length_push (ids c.args.tuple) c.in-Some.identifier, lt, c.requires) in
-    (subst (λ (n : ℕ). 3 - length (ids c.with-then-may-fill.result) < n) c.decreases f, (within.0, (within.1, c.requires)))
+pub first_from-found-requires : goal.first_from-found-requires
+first_from-found-requires g t c κs within =
+    let eq : c.as_slice-heads.result.now ≡ heads (rule_of c.args.rule.now) = c.as_slice-heads.ensures.value ∙ heads_are c.args.rule.now in
+    let lt : length (ids c.args.tuple) < length (heads (rule_of c.args.rule.now)) = omega (arith, ap length eq, ap length c.as_slice-place.ensures.value, c.if-place-heads.false) in
+    let wi : ids c.with-then-may_fill.result ≡ (ids c.args.tuple) ++ (c.in-Some.identifier ∷ []) = c.with-then-may_fill.ensures ∙ with_more (ids c.args.tuple) c.in-Some.identifier (omega (arith, lt, c.requires)) in
+    let f : 3 - length (ids c.with-then-may_fill.result) < 3 - length (ids c.args.tuple) = omega (arith, ap length wi, length_push (ids c.args.tuple) c.in-Some.identifier, lt, c.requires) in
+    (subst (λ (n : ℕ). 3 - length (ids c.with-then-may_fill.result) < n) c.decreases f, (within.0, (within.1, c.requires)))
 
-pub returns-then-is-some : goal.returns-then-is-some
-returns-then-is-some g t c b =
-    let eq : c.as-slice-heads.result.now ≡ heads (rule_of c.args.rule.now) = c.as-slice-heads.ensures.value ∙ heads_are c.args.rule.now in
-    let lt : length (ids c.args.tuple) < length (heads (rule_of c.args.rule.now)) = omega (arith, ap length eq, ap length c.as-slice-place.ensures.value, c.if-place-heads.false) in
-    let ne : length (ids c.args.tuple) ≡ c.args.head → ⊥ = λ e. c.if-place-head.false (ap length c.as-slice-place.ensures.value ∙ e) in
-    let sy : (get_or c.as-slice-heads.result.now (length c.as-slice-place.result.now) 0) ≡ get_or (heads (rule_of c.args.rule.now)) (length (ids c.args.tuple)) 0 = ap (λ z. get_or z (length c.as-slice-place.result.now) 0) eq ∙ ap (λ z. get_or (heads (rule_of c.args.rule.now)) (length z) 0) c.as-slice-place.ensures.value in
-    let wi : ids c.with-then-may-fill.result ≡ (ids c.args.tuple) ++ (c.in-Some.identifier ∷ []) = c.with-then-may-fill.ensures ∙ with_more (ids c.args.tuple) c.in-Some.identifier (omega (arith, lt, c.requires)) in
-    found_any g.T.Theory g.P.PartnerTable (view c.args.self.now) c.args.number c.args.head c.args.active (rule_of c.args.rule.now) (ids c.args.tuple) b lt ids c.in-Some.identifier (passed_below g.T.Theory g.P.PartnerTable (view c.args.self.now) c.args.number c.args.head c.args.active (rule_of c.args.rule.now) (ids c.args.tuple) b lt (get_or c.as-slice-heads.result.now (length c.as-slice-place.result.now) 0) sy c.key-key.result (key_fits g.T.Theory g.P.PartnerTable (view c.args.self.now) c.args.number c.args.head c.args.active (rule_of c.args.rule.now) (ids c.args.tuple) b lt c.key-key.result c.key-key.ensures) c.loop-identifier.last c.in-Some.identifier (c.loop-identifier.invariant b) c.in-Some.ensures) c.first-from-found.result (sym c.is-some.ensures ∙ c.if-is-some.true) (subst (λ z. FirstFrom g.T.Theory g.P.PartnerTable (view c.args.self.now) c.args.number c.args.head c.args.active z (option_map ids c.first-from-found.result)) wi (c.first-from-found.ensures (subst (Begun g.T.Theory g.P.PartnerTable (view c.args.self.now) c.args.number c.args.head c.args.active (rule_of c.args.rule.now)) (sym wi) (fill_begun g.T.Theory g.P.PartnerTable (view c.args.self.now) c.args.number c.args.head c.args.active (rule_of c.args.rule.now) (ids c.args.tuple) b lt (get_or c.as-slice-heads.result.now (length c.as-slice-place.result.now) 0) sy c.key-key.result (key_fits g.T.Theory g.P.PartnerTable (view c.args.self.now) c.args.number c.args.head c.args.active (rule_of c.args.rule.now) (ids c.args.tuple) b lt c.key-key.result c.key-key.ensures) c.in-Some.identifier ne c.if-may-fill.ensures))))
+pub returns-then-is_some : goal.returns-then-is_some
+returns-then-is_some g t c b =
+    let eq : c.as_slice-heads.result.now ≡ heads (rule_of c.args.rule.now) = c.as_slice-heads.ensures.value ∙ heads_are c.args.rule.now in
+    let lt : length (ids c.args.tuple) < length (heads (rule_of c.args.rule.now)) = omega (arith, ap length eq, ap length c.as_slice-place.ensures.value, c.if-place-heads.false) in
+    let ne : length (ids c.args.tuple) ≡ c.args.head → ⊥ = λ e. c.if-place-head.false (ap length c.as_slice-place.ensures.value ∙ e) in
+    let sy : (get_or c.as_slice-heads.result.now (length c.as_slice-place.result.now) 0) ≡ get_or (heads (rule_of c.args.rule.now)) (length (ids c.args.tuple)) 0 = ap (λ z. get_or z (length c.as_slice-place.result.now) 0) eq ∙ ap (λ z. get_or (heads (rule_of c.args.rule.now)) (length z) 0) c.as_slice-place.ensures.value in
+    let wi : ids c.with-then-may_fill.result ≡ (ids c.args.tuple) ++ (c.in-Some.identifier ∷ []) = c.with-then-may_fill.ensures ∙ with_more (ids c.args.tuple) c.in-Some.identifier (omega (arith, lt, c.requires)) in
+    found_any g.T.Theory g.P.PartnerTable (view c.args.self.now) c.args.number c.args.head c.args.active (rule_of c.args.rule.now) (ids c.args.tuple) b lt ids c.in-Some.identifier (passed_below g.T.Theory g.P.PartnerTable (view c.args.self.now) c.args.number c.args.head c.args.active (rule_of c.args.rule.now) (ids c.args.tuple) b lt (get_or c.as_slice-heads.result.now (length c.as_slice-place.result.now) 0) sy c.key-key.result (key_fits g.T.Theory g.P.PartnerTable (view c.args.self.now) c.args.number c.args.head c.args.active (rule_of c.args.rule.now) (ids c.args.tuple) b lt c.key-key.result c.key-key.ensures) c.loop-identifier.last c.in-Some.identifier (c.loop-identifier.invariant b) c.in-Some.ensures) c.first_from-found.result (sym c.is_some.ensures ∙ c.if-is_some.true) (subst (λ z. FirstFrom g.T.Theory g.P.PartnerTable (view c.args.self.now) c.args.number c.args.head c.args.active z (option_map ids c.first_from-found.result)) wi (c.first_from-found.ensures (subst (Begun g.T.Theory g.P.PartnerTable (view c.args.self.now) c.args.number c.args.head c.args.active (rule_of c.args.rule.now)) (sym wi) (fill_begun g.T.Theory g.P.PartnerTable (view c.args.self.now) c.args.number c.args.head c.args.active (rule_of c.args.rule.now) (ids c.args.tuple) b lt (get_or c.as_slice-heads.result.now (length c.as_slice-place.result.now) 0) sy c.key-key.result (key_fits g.T.Theory g.P.PartnerTable (view c.args.self.now) c.args.number c.args.head c.args.active (rule_of c.args.rule.now) (ids c.args.tuple) b lt c.key-key.result c.key-key.ensures) c.in-Some.identifier ne c.if-may_fill.ensures))))
 
-pub loop-identifier-smaller-else-is-some : goal.loop-identifier-smaller-else-is-some
-loop-identifier-smaller-else-is-some g t c =
+pub loop-identifier-smaller-else-is_some : goal.loop-identifier-smaller-else-is_some
+loop-identifier-smaller-else-is_some g t c =
     let a = c.in-Some.ensures in
-    omega (arith, a.0, high_answer c.in-Some.identifier (g.P.PartnerTable.records c.args.self.now.table.now c.in-Some.identifier) (Some (get_or c.as-slice-heads.result.now (length c.as-slice-place.result.now) 0)) c.key-key.result (g.met.P.PartnerTable.fits c.args.self.now.table.now c.in-Some.identifier) a.1)
+    omega (arith, a.0, high_answer c.in-Some.identifier (g.P.PartnerTable.records c.args.self.now.table.now c.in-Some.identifier) (Some (get_or c.as_slice-heads.result.now (length c.as_slice-place.result.now) 0)) c.key-key.result (g.met.P.PartnerTable.fits c.args.self.now.table.now c.in-Some.identifier) a.1)
 
-pub loop-identifier-preserved-else-is-some : goal.loop-identifier-preserved-else-is-some
-loop-identifier-preserved-else-is-some g t c b =
-    let eq : c.as-slice-heads.result.now ≡ heads (rule_of c.args.rule.now) = c.as-slice-heads.ensures.value ∙ heads_are c.args.rule.now in
-    let lt : length (ids c.args.tuple) < length (heads (rule_of c.args.rule.now)) = omega (arith, ap length eq, ap length c.as-slice-place.ensures.value, c.if-place-heads.false) in
-    let ne : length (ids c.args.tuple) ≡ c.args.head → ⊥ = λ e. c.if-place-head.false (ap length c.as-slice-place.ensures.value ∙ e) in
-    let sy : (get_or c.as-slice-heads.result.now (length c.as-slice-place.result.now) 0) ≡ get_or (heads (rule_of c.args.rule.now)) (length (ids c.args.tuple)) 0 = ap (λ z. get_or z (length c.as-slice-place.result.now) 0) eq ∙ ap (λ z. get_or (heads (rule_of c.args.rule.now)) (length z) 0) c.as-slice-place.ensures.value in
-    let wi : ids c.with-then-may-fill.result ≡ (ids c.args.tuple) ++ (c.in-Some.identifier ∷ []) = c.with-then-may-fill.ensures ∙ with_more (ids c.args.tuple) c.in-Some.identifier (omega (arith, lt, c.requires)) in
-    passed_more g.T.Theory g.P.PartnerTable (view c.args.self.now) c.args.number c.args.head c.args.active (ids c.args.tuple) c.in-Some.identifier (passed_below g.T.Theory g.P.PartnerTable (view c.args.self.now) c.args.number c.args.head c.args.active (rule_of c.args.rule.now) (ids c.args.tuple) b lt (get_or c.as-slice-heads.result.now (length c.as-slice-place.result.now) 0) sy c.key-key.result (key_fits g.T.Theory g.P.PartnerTable (view c.args.self.now) c.args.number c.args.head c.args.active (rule_of c.args.rule.now) (ids c.args.tuple) b lt c.key-key.result c.key-key.ensures) c.loop-identifier.last c.in-Some.identifier (c.loop-identifier.invariant b) c.in-Some.ensures) (tried_any g.T.Theory g.P.PartnerTable (view c.args.self.now) c.args.number c.args.head c.args.active ids (ids c.args.tuple) c.in-Some.identifier c.first-from-found.result (sym c.is-some.ensures ∙ c.if-is-some.false) (subst (λ z. FirstFrom g.T.Theory g.P.PartnerTable (view c.args.self.now) c.args.number c.args.head c.args.active z (option_map ids c.first-from-found.result)) wi (c.first-from-found.ensures (subst (Begun g.T.Theory g.P.PartnerTable (view c.args.self.now) c.args.number c.args.head c.args.active (rule_of c.args.rule.now)) (sym wi) (fill_begun g.T.Theory g.P.PartnerTable (view c.args.self.now) c.args.number c.args.head c.args.active (rule_of c.args.rule.now) (ids c.args.tuple) b lt (get_or c.as-slice-heads.result.now (length c.as-slice-place.result.now) 0) sy c.key-key.result (key_fits g.T.Theory g.P.PartnerTable (view c.args.self.now) c.args.number c.args.head c.args.active (rule_of c.args.rule.now) (ids c.args.tuple) b lt c.key-key.result c.key-key.ensures) c.in-Some.identifier ne c.if-may-fill.ensures)))))
+pub loop-identifier-preserved-else-is_some : goal.loop-identifier-preserved-else-is_some
+loop-identifier-preserved-else-is_some g t c b =
+    let eq : c.as_slice-heads.result.now ≡ heads (rule_of c.args.rule.now) = c.as_slice-heads.ensures.value ∙ heads_are c.args.rule.now in
+    let lt : length (ids c.args.tuple) < length (heads (rule_of c.args.rule.now)) = omega (arith, ap length eq, ap length c.as_slice-place.ensures.value, c.if-place-heads.false) in
+    let ne : length (ids c.args.tuple) ≡ c.args.head → ⊥ = λ e. c.if-place-head.false (ap length c.as_slice-place.ensures.value ∙ e) in
+    let sy : (get_or c.as_slice-heads.result.now (length c.as_slice-place.result.now) 0) ≡ get_or (heads (rule_of c.args.rule.now)) (length (ids c.args.tuple)) 0 = ap (λ z. get_or z (length c.as_slice-place.result.now) 0) eq ∙ ap (λ z. get_or (heads (rule_of c.args.rule.now)) (length z) 0) c.as_slice-place.ensures.value in
+    let wi : ids c.with-then-may_fill.result ≡ (ids c.args.tuple) ++ (c.in-Some.identifier ∷ []) = c.with-then-may_fill.ensures ∙ with_more (ids c.args.tuple) c.in-Some.identifier (omega (arith, lt, c.requires)) in
+    passed_more g.T.Theory g.P.PartnerTable (view c.args.self.now) c.args.number c.args.head c.args.active (ids c.args.tuple) c.in-Some.identifier (passed_below g.T.Theory g.P.PartnerTable (view c.args.self.now) c.args.number c.args.head c.args.active (rule_of c.args.rule.now) (ids c.args.tuple) b lt (get_or c.as_slice-heads.result.now (length c.as_slice-place.result.now) 0) sy c.key-key.result (key_fits g.T.Theory g.P.PartnerTable (view c.args.self.now) c.args.number c.args.head c.args.active (rule_of c.args.rule.now) (ids c.args.tuple) b lt c.key-key.result c.key-key.ensures) c.loop-identifier.last c.in-Some.identifier (c.loop-identifier.invariant b) c.in-Some.ensures) (tried_any g.T.Theory g.P.PartnerTable (view c.args.self.now) c.args.number c.args.head c.args.active ids (ids c.args.tuple) c.in-Some.identifier c.first_from-found.result (sym c.is_some.ensures ∙ c.if-is_some.false) (subst (λ z. FirstFrom g.T.Theory g.P.PartnerTable (view c.args.self.now) c.args.number c.args.head c.args.active z (option_map ids c.first_from-found.result)) wi (c.first_from-found.ensures (subst (Begun g.T.Theory g.P.PartnerTable (view c.args.self.now) c.args.number c.args.head c.args.active (rule_of c.args.rule.now)) (sym wi) (fill_begun g.T.Theory g.P.PartnerTable (view c.args.self.now) c.args.number c.args.head c.args.active (rule_of c.args.rule.now) (ids c.args.tuple) b lt (get_or c.as_slice-heads.result.now (length c.as_slice-place.result.now) 0) sy c.key-key.result (key_fits g.T.Theory g.P.PartnerTable (view c.args.self.now) c.args.number c.args.head c.args.active (rule_of c.args.rule.now) (ids c.args.tuple) b lt c.key-key.result c.key-key.ensures) c.in-Some.identifier ne c.if-may_fill.ensures)))))
 
 pub loop-identifier-smaller : goal.loop-identifier-smaller
 loop-identifier-smaller g t c =
     let a = c.in-Some.ensures in
-    omega (arith, a.0, high_answer c.in-Some.identifier (g.P.PartnerTable.records c.args.self.now.table.now c.in-Some.identifier) (Some (get_or c.as-slice-heads.result.now (length c.as-slice-place.result.now) 0)) c.key-key.result (g.met.P.PartnerTable.fits c.args.self.now.table.now c.in-Some.identifier) a.1)
+    omega (arith, a.0, high_answer c.in-Some.identifier (g.P.PartnerTable.records c.args.self.now.table.now c.in-Some.identifier) (Some (get_or c.as_slice-heads.result.now (length c.as_slice-place.result.now) 0)) c.key-key.result (g.met.P.PartnerTable.fits c.args.self.now.table.now c.in-Some.identifier) a.1)
 
 pub loop-identifier-preserved : goal.loop-identifier-preserved
 loop-identifier-preserved g t c b =
-    let eq : c.as-slice-heads.result.now ≡ heads (rule_of c.args.rule.now) = c.as-slice-heads.ensures.value ∙ heads_are c.args.rule.now in
-    let lt : length (ids c.args.tuple) < length (heads (rule_of c.args.rule.now)) = omega (arith, ap length eq, ap length c.as-slice-place.ensures.value, c.if-place-heads.false) in
-    let ne : length (ids c.args.tuple) ≡ c.args.head → ⊥ = λ e. c.if-place-head.false (ap length c.as-slice-place.ensures.value ∙ e) in
-    let sy : (get_or c.as-slice-heads.result.now (length c.as-slice-place.result.now) 0) ≡ get_or (heads (rule_of c.args.rule.now)) (length (ids c.args.tuple)) 0 = ap (λ z. get_or z (length c.as-slice-place.result.now) 0) eq ∙ ap (λ z. get_or (heads (rule_of c.args.rule.now)) (length z) 0) c.as-slice-place.ensures.value in
-    passed_more g.T.Theory g.P.PartnerTable (view c.args.self.now) c.args.number c.args.head c.args.active (ids c.args.tuple) c.in-Some.identifier (passed_below g.T.Theory g.P.PartnerTable (view c.args.self.now) c.args.number c.args.head c.args.active (rule_of c.args.rule.now) (ids c.args.tuple) b lt (get_or c.as-slice-heads.result.now (length c.as-slice-place.result.now) 0) sy c.key-key.result (key_fits g.T.Theory g.P.PartnerTable (view c.args.self.now) c.args.number c.args.head c.args.active (rule_of c.args.rule.now) (ids c.args.tuple) b lt c.key-key.result c.key-key.ensures) c.loop-identifier.last c.in-Some.identifier (c.loop-identifier.invariant b) c.in-Some.ensures) (unfit g.T.Theory g.P.PartnerTable (view c.args.self.now) c.args.number c.args.head c.args.active (rule_of c.args.rule.now) (ids c.args.tuple) b lt (get_or c.as-slice-heads.result.now (length c.as-slice-place.result.now) 0) sy c.key-key.result (key_fits g.T.Theory g.P.PartnerTable (view c.args.self.now) c.args.number c.args.head c.args.active (rule_of c.args.rule.now) (ids c.args.tuple) b lt c.key-key.result c.key-key.ensures) c.in-Some.identifier ne c.if-may-fill.ensures)
+    let eq : c.as_slice-heads.result.now ≡ heads (rule_of c.args.rule.now) = c.as_slice-heads.ensures.value ∙ heads_are c.args.rule.now in
+    let lt : length (ids c.args.tuple) < length (heads (rule_of c.args.rule.now)) = omega (arith, ap length eq, ap length c.as_slice-place.ensures.value, c.if-place-heads.false) in
+    let ne : length (ids c.args.tuple) ≡ c.args.head → ⊥ = λ e. c.if-place-head.false (ap length c.as_slice-place.ensures.value ∙ e) in
+    let sy : (get_or c.as_slice-heads.result.now (length c.as_slice-place.result.now) 0) ≡ get_or (heads (rule_of c.args.rule.now)) (length (ids c.args.tuple)) 0 = ap (λ z. get_or z (length c.as_slice-place.result.now) 0) eq ∙ ap (λ z. get_or (heads (rule_of c.args.rule.now)) (length z) 0) c.as_slice-place.ensures.value in
+    passed_more g.T.Theory g.P.PartnerTable (view c.args.self.now) c.args.number c.args.head c.args.active (ids c.args.tuple) c.in-Some.identifier (passed_below g.T.Theory g.P.PartnerTable (view c.args.self.now) c.args.number c.args.head c.args.active (rule_of c.args.rule.now) (ids c.args.tuple) b lt (get_or c.as_slice-heads.result.now (length c.as_slice-place.result.now) 0) sy c.key-key.result (key_fits g.T.Theory g.P.PartnerTable (view c.args.self.now) c.args.number c.args.head c.args.active (rule_of c.args.rule.now) (ids c.args.tuple) b lt c.key-key.result c.key-key.ensures) c.loop-identifier.last c.in-Some.identifier (c.loop-identifier.invariant b) c.in-Some.ensures) (unfit g.T.Theory g.P.PartnerTable (view c.args.self.now) c.args.number c.args.head c.args.active (rule_of c.args.rule.now) (ids c.args.tuple) b lt (get_or c.as_slice-heads.result.now (length c.as_slice-place.result.now) 0) sy c.key-key.result (key_fits g.T.Theory g.P.PartnerTable (view c.args.self.now) c.args.number c.args.head c.args.active (rule_of c.args.rule.now) (ids c.args.tuple) b lt c.key-key.result c.key-key.ensures) c.in-Some.identifier ne c.if-may_fill.ensures)
 
 pub returns : goal.returns
 returns g t c b =
-    let eq : c.as-slice-heads.result.now ≡ heads (rule_of c.args.rule.now) = c.as-slice-heads.ensures.value ∙ heads_are c.args.rule.now in
-    let lt : length (ids c.args.tuple) < length (heads (rule_of c.args.rule.now)) = omega (arith, ap length eq, ap length c.as-slice-place.ensures.value, c.if-place-heads.false) in
-    let sy : (get_or c.as-slice-heads.result.now (length c.as-slice-place.result.now) 0) ≡ get_or (heads (rule_of c.args.rule.now)) (length (ids c.args.tuple)) 0 = ap (λ z. get_or z (length c.as-slice-place.result.now) 0) eq ∙ ap (λ z. get_or (heads (rule_of c.args.rule.now)) (length z) 0) c.as-slice-place.ensures.value in
-    none_left g.T.Theory g.P.PartnerTable (view c.args.self.now) c.args.number c.args.head c.args.active (rule_of c.args.rule.now) (ids c.args.tuple) b lt (get_or c.as-slice-heads.result.now (length c.as-slice-place.result.now) 0) sy c.key-key.result (key_fits g.T.Theory g.P.PartnerTable (view c.args.self.now) c.args.number c.args.head c.args.active (rule_of c.args.rule.now) (ids c.args.tuple) b lt c.key-key.result c.key-key.ensures) c.loop-identifier.last (c.loop-identifier.invariant b) c.in-default.ensures
+    let eq : c.as_slice-heads.result.now ≡ heads (rule_of c.args.rule.now) = c.as_slice-heads.ensures.value ∙ heads_are c.args.rule.now in
+    let lt : length (ids c.args.tuple) < length (heads (rule_of c.args.rule.now)) = omega (arith, ap length eq, ap length c.as_slice-place.ensures.value, c.if-place-heads.false) in
+    let sy : (get_or c.as_slice-heads.result.now (length c.as_slice-place.result.now) 0) ≡ get_or (heads (rule_of c.args.rule.now)) (length (ids c.args.tuple)) 0 = ap (λ z. get_or z (length c.as_slice-place.result.now) 0) eq ∙ ap (λ z. get_or (heads (rule_of c.args.rule.now)) (length z) 0) c.as_slice-place.ensures.value in
+    none_left g.T.Theory g.P.PartnerTable (view c.args.self.now) c.args.number c.args.head c.args.active (rule_of c.args.rule.now) (ids c.args.tuple) b lt (get_or c.as_slice-heads.result.now (length c.as_slice-place.result.now) 0) sy c.key-key.result (key_fits g.T.Theory g.P.PartnerTable (view c.args.self.now) c.args.number c.args.head c.args.active (rule_of c.args.rule.now) (ids c.args.tuple) b lt c.key-key.result c.key-key.ensures) c.loop-identifier.last (c.loop-identifier.invariant b) c.in_default.ensures

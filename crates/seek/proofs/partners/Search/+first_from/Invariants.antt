@@ -5,8 +5,8 @@ use Rattle.seek.specs.Searches.{view, Begun}
 use Rattle.seek.proofs.Searching.{Passed}
 use Rattle.seek.proofs.partners.Search.+first_from.Given as goal
 
-abbrev pub decreases-first-from : goal.decreases-first-from
-decreases-first-from g l = 3 - length (ids l.tuple)
+abbrev pub decreases-first_from : goal.decreases-first_from
+decreases-first_from g l = 3 - length (ids l.tuple)
 
 abbrev pub invariant-loop-identifier : goal.invariant-loop-identifier
 invariant-loop-identifier g l = Begun g.T.Theory g.P.PartnerTable (view l.self) l.number l.head l.active (rule_of l.rule) (ids l.tuple) → Passed g.T.Theory g.P.PartnerTable (view l.self) l.number l.head l.active (ids l.tuple) l.last

@@ -1,4 +1,4 @@
-use Rattle.std.proofs.Common.{◌≡◌, length, ap, ◌∙◌, arith}
+use Rattle.std.proofs.Common.{length, ap, ◌∙◌, arith}
 use Rattle.rules.specs.Views.{rule_of}
 use Rattle.rulefile.specs.Rulebooks.{rules_book}
 use Rattle.machine.specs.Tuples.{ids}
@@ -9,7 +9,7 @@ use Rattle.seek.proofs.Occurring.{heads_are}
 use Rattle.seek.proofs.partners.Search.key.Goals as goal
 
 pub key-requires : goal.key-requires
-key-requires g c = record { few = omega (arith, ap length (c.as-slice.ensures.value ∙ heads_are c.args.rule.now), c.requires.few); left = omega (arith, ap length c.as-slice.ensures.value, c.requires.left) }
+key-requires g c = record { few = omega (arith, ap length (c.as_slice.ensures.value ∙ heads_are c.args.rule.now), c.requires.few); left = omega (arith, ap length c.as_slice.ensures.value, c.requires.left) }
 
 pub returns : goal.returns
-returns g c = c.key.ensures ∙ key_over (rules_book c.args.self.now.rules.now).arities (store_in g.P.PartnerTable c.args.self.now.table.now) (filler_at (ids c.args.tuple) c.args.head c.args.active) (length (ids c.args.tuple)) c.as-slice.result.now c.deref.result.now (rule_of c.args.rule.now) (c.as-slice.ensures.value ∙ heads_are c.args.rule.now) c.deref.ensures.value
+returns g c = c.key.ensures ∙ key_over (rules_book c.args.self.now.rules.now).arities (store_in g.P.PartnerTable c.args.self.now.table.now) (filler_at (ids c.args.tuple) c.args.head c.args.active) (length (ids c.args.tuple)) c.as_slice.result.now c.deref.result.now (rule_of c.args.rule.now) (c.as_slice.ensures.value ∙ heads_are c.args.rule.now) c.deref.ensures.value

@@ -14,12 +14,12 @@ use Rattle.seek.proofs.partners.ready.guarded.Goals as goal
 pub returns-then-not-ask : goal.returns-then-not-ask
 returns-then-not-ask g c a =
     let Q : Primitive Term → Type 0 = λ p. Follows (g.T.Theory.means c.args.theory.now) (fill_primitive (slot_in g.P.PartnerTable c.args.slots.now) p) in
-    c.if-not-ask.ensures (subst (Follows (g.T.Theory.means c.args.theory.now)) (sym c.fill-primitive.ensures) (all_at Q c.args.guards.now c.loop-guard.guard-index (Same (Value (pos 0)) (Value (pos 0))) c.loop-guard-test.true a))
+    c.if-not-ask.ensures (subst (Follows (g.T.Theory.means c.args.theory.now)) (sym c.fill_primitive.ensures) (all_at Q c.args.guards.now c.loop-guard.guard-index (Same (Value (pos 0)) (Value (pos 0))) c.loop-guard-test.true a))
 
 pub loop-guard-preserved : goal.loop-guard-preserved
 loop-guard-preserved g c =
     let Q : Primitive Term → Type 0 = λ p. Follows (g.T.Theory.means c.args.theory.now) (fill_primitive (slot_in g.P.PartnerTable c.args.slots.now) p) in
-    all_more Q c.args.guards.now c.loop-guard.guard-index (Same (Value (pos 0)) (Value (pos 0))) c.loop-guard-test.true c.loop-guard.invariant (subst (Follows (g.T.Theory.means c.args.theory.now)) c.fill-primitive.ensures c.if-not-ask.ensures)
+    all_more Q c.args.guards.now c.loop-guard.guard-index (Same (Value (pos 0)) (Value (pos 0))) c.loop-guard-test.true c.loop-guard.invariant (subst (Follows (g.T.Theory.means c.args.theory.now)) c.fill_primitive.ensures c.if-not-ask.ensures)
 
 pub returns : goal.returns
 returns g c =

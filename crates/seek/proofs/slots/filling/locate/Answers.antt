@@ -1,4 +1,4 @@
-use Rattle.std.proofs.Common.{sym, ◌∙◌, arith}
+use Rattle.std.proofs.Common.{sym, ◌∙◌}
 use Rattle.seek.specs.Slots.{located}
 use Rattle.seek.proofs.Located.{shifted_none, located_here, located_later, located_none}
 use Rattle.seek.proofs.slots.filling.locate.Goals as goal
