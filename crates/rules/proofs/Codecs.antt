@@ -2,7 +2,7 @@
 use Rattle.std.proofs.Common.{◌≡◌, ℕ, zero, suc, Bool, true, false, cond, List, [], ◌∷◌, ◌++◌, length, sym, refl, ap, ◌∙◌, subst, append_assoc}
 use Rattle.terms.specs.Lists.{All}
 use Rattle.rules.specs.Format.{Bytes, each}
-use Rattle.rules.specs.Parse.{Outcome, Parser, got, refused, after, many}
+use Rattle.rules.specs.Parse.{Parser, got, after, many}
 use Rattle.rules.proofs.Outcomes.{inverted, got_is}
 
 -- p reads exactly what e writes of what is V

@@ -1,5 +1,5 @@
 -- A file is accepted exactly when it is the encoding of valid rules.
-use Rattle.std.proofs.Common.{◌≡◌, ℕ, zero, suc, ◌<◌, ◌≤◌, Bool, true, false, cond, eqb, ltb, List, [], ◌∷◌, ◌++◌, length, get_or, drop, Ok, Err, Result, sym, refl, ap, ◌∙◌, subst, append-nil, arith, w8, Fits}
+use Rattle.std.proofs.Common.{◌≡◌, ℕ, zero, suc, ◌≤◌, true, eqb, ltb, List, [], ◌∷◌, ◌++◌, length, get_or, drop, Ok, Err, sym, refl, ap, ◌∙◌, subst, append-nil, arith, w8, Fits}
 use Rattle.std.proofs.lemmas.Bool.{and_parts, eqb-true, ltb-false, le-ltb}
 use Rattle.rules.specs.Books.{Book}
 use Rattle.rules.specs.Valids.{Valid}
@@ -9,7 +9,6 @@ use Rattle.rules.specs.Files.{begins, whole, file, AcceptedExactly}
 use Rattle.rules.specs.declared.LoadRefusal.{LoadRefusal}
 use Rattle.rules.specs.declared.LoadRefusal.TheVariants.{TooLong}
 use Rattle.rules.proofs.Outcomes.{branch, off}
-use Rattle.rules.proofs.Codecs.{Codec}
 use Rattle.rules.proofs.RuleCodecs.{book_codec}
 
 -- what a byte's type says

@@ -1,11 +1,11 @@
 -- Numbers and values are read exactly as they are written.
-use Rattle.std.proofs.Common.{◌≡◌, ℕ, ◌+◌, ◌-◌, ◌*◌, ◌/◌, ◌%◌, ◌<◌, ◌≤◌, Bool, true, false, cond, eqb, ltb, List, [], ◌∷◌, ◌++◌, length, ℤ, sym, refl, ap, ◌∙◌, subst, ⊎_elim, arith}
+use Rattle.std.proofs.Common.{◌≡◌, ℕ, ◌+◌, ◌-◌, ◌*◌, ◌/◌, ◌%◌, ◌<◌, ◌≤◌, true, false, eqb, ltb, List, [], ◌∷◌, ◌++◌, length, refl, ◌∙◌, ⊎_elim, arith}
 use Rattle.std.proofs.lemmas.Bool.{cond-true, cond-false, ne_eqb, lt-ltb, le-ltb, ltb-true, ltb-false, eqb-false, cases_lt}
 use Rattle.terms.specs.Lists.{All}
 use Rattle.terms.specs.Values.{IsValue}
 use Rattle.rules.specs.Codes.{value_of, code_of}
 use Rattle.rules.specs.Format.{Bytes, number_bytes, value_bytes, each, counted}
-use Rattle.rules.specs.Parse.{Outcome, Parser, got, refused, after, byte, third_byte, second_byte, number, ranged, index, value, many, list}
+use Rattle.rules.specs.Parse.{Parser, got, third_byte, second_byte, number, ranged, index, value, many, list}
 use Rattle.rules.proofs.Signs.{code_value, value_code, code_in_range, value_in_range}
 use Rattle.rules.proofs.Outcomes.{never, got_is, branch, inverted}
 use Rattle.rules.proofs.Codecs.{Codec, renamed, sequence, made_of, many_codec}

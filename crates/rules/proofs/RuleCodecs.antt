@@ -1,5 +1,5 @@
 -- Body items, rules and books are read exactly as they are written.
-use Rattle.std.proofs.Common.{◌≡◌, ℕ, ◌+◌, ◌*◌, ◌<◌, ◌≤◌, Bool, true, false, cond, eqb, ltb, List, [], ◌∷◌, ◌++◌, length, get_or, take, drop, sym, refl, ap, ◌∙◌, subst, append_assoc, arith, length-append, length-drop, take-append-drop}
+use Rattle.std.proofs.Common.{◌≡◌, ℕ, ◌+◌, ◌<◌, ◌≤◌, cond, eqb, ltb, List, [], ◌∷◌, ◌++◌, length, get_or, take, drop, sym, refl, ap, ◌∙◌, append_assoc, arith, length-append, length-drop, take-append-drop}
 use lib.Seq.{take-append_seam, drop-append_seam}
 use Rattle.std.proofs.lemmas.Bool.{eqb-true, eqb-false, ltb-false, le-ltb}
 use Rattle.terms.specs.declared.Primitive.{Primitive}
@@ -11,7 +11,7 @@ use Rattle.terms.specs.Primitives.{TermValid, PrimitiveValid}
 use Rattle.rules.specs.Books.{Goal, tell, add, Rule, Book, heads, slot_count}
 use Rattle.rules.specs.Valids.{GoalValid, RuleValid, Valid}
 use Rattle.rules.specs.Format.{Bytes, number_bytes, term_bytes, primitive_bytes, each, counted, goal_bytes, rule_bytes}
-use Rattle.rules.specs.Parse.{Parser, got, after, number, ranged, index, term, primitive, guard, many, list, addition, goal, head_counts, rule_rest, rule, book}
+use Rattle.rules.specs.Parse.{got, after, number, index, primitive, many, addition, goal, head_counts, rule_rest, rule, book}
 use Rattle.rules.proofs.Outcomes.{never, got_is, branch, inverted}
 use Rattle.rules.proofs.Codecs.{Codec, joined, renamed, chosen, sequence, made_of, many_codec}
 use Rattle.rules.proofs.Numbers.{number_codec, ranged_codec, index_codec, list_codec}

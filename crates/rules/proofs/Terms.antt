@@ -1,6 +1,6 @@
 -- Terms and primitives are read exactly as they are written.
-use Rattle.std.proofs.Common.{◌≡◌, ℕ, ◌<◌, ◌≤◌, Bool, true, false, cond, eqb, List, ◌++◌, ℤ, pos, sym, refl, ap, ◌∙◌, subst, arith}
-use Rattle.std.proofs.lemmas.Bool.{cond_both, eqb_true, eqb-false, ne_eqb, cond-true, cond-false, eq-eqb}
+use Rattle.std.proofs.Common.{◌≡◌, ℕ, ◌<◌, ◌≤◌, cond, eqb, List, ◌++◌, ℤ, pos, sym, refl, ap, ◌∙◌, arith}
+use Rattle.std.proofs.lemmas.Bool.{cond_both, eqb-true, eqb-false, ne_eqb, cond-true, cond-false, eq-eqb}
 use Rattle.terms.specs.declared.Primitive.{Primitive}
 use Rattle.terms.specs.declared.Primitive.TheVariants.{Same, Least, Most}
 use Rattle.terms.specs.declared.Term.{Term}
@@ -8,7 +8,7 @@ use Rattle.terms.specs.declared.Term.TheVariants.{Value, Slot}
 use Rattle.terms.specs.Values.{IsValue}
 use Rattle.terms.specs.Primitives.{TermValid, PrimitiveValid}
 use Rattle.rules.specs.Format.{number_bytes, value_bytes, term_bytes, primitive_bytes}
-use Rattle.rules.specs.Parse.{Parser, got, after, ranged, index, value, term, primitive, guard}
+use Rattle.rules.specs.Parse.{got, after, index, value, term, primitive, guard}
 use Rattle.rules.proofs.Codecs.{Codec, renamed, chosen, sequence, made_of}
 use Rattle.rules.proofs.Numbers.{ranged_codec, index_codec, value_codec}
 
@@ -52,7 +52,7 @@ term_codec slots h =
 
     rest : (kind : ℕ) → (0 ≤ kind) × (kind ≤ 1) → Codec (λ k s. cond (eqb kind 0) (after (value k s) (λ v. got (Value v))) (after (index slots k s) (λ n. got (Slot n)))) term_rest (λ t. (term_kind t ≡ kind) × TermValid slots t)
     rest kind b = chosen (eqb kind 0)
-        (λ y. let z : kind ≡ 0 = eqb_true kind 0 y in
+        (λ y. let z : kind ≡ 0 = eqb-true kind 0 y in
         renamed (made_of (λ v. Value v) number_in (λ t. (term_kind t ≡ kind) × TermValid slots t) value_codec (λ v r. ((sym z, r), refl)) (λ t w. let a = as_value kind z t w in (a.0, a.1)))
         (λ t w. (as_value kind z t w).2) (λ t w. w) (λ t w. w))
         (λ y. let z = eqb-false kind 0 y in
@@ -113,12 +113,12 @@ module _ (slots : ℕ) (h : slots ≤ 256) where
 
   bound_made : (kind : ℕ) → (kind ≡ 0 → ⊥) → kind ≤ 2 → (a : Term) (n : ℤ) → IsValue n → Right kind a (bounded kind a n) × (right_number (bounded kind a n) ≡ n)
   bound_made kind z b a n r = cond_both (eqb kind 1) (Least a n) (Most a n) (λ p. Right kind a p × (right_number p ≡ n))
-      (λ t. ((refl, sym (eqb_true kind 1 t), r), refl)) (λ t. let y = eqb-false kind 1 t in ((refl, omega arith, r), refl))
+      (λ t. ((refl, sym (eqb-true kind 1 t), r), refl)) (λ t. let y = eqb-false kind 1 t in ((refl, omega arith, r), refl))
 
   right_codec : (kind : ℕ) → kind ≤ 2 → (a : Term) →
       Codec (λ k s. cond (eqb kind 0) (after (term slots k s) (λ b. got (Same a b))) (after (value k s) (λ n. got (bounded kind a n)))) right_bytes (Right kind a)
   right_codec kind b a = chosen (eqb kind 0)
-      (λ y. let z : kind ≡ 0 = eqb_true kind 0 y in
+      (λ y. let z : kind ≡ 0 = eqb-true kind 0 y in
       renamed (made_of (λ t. Same a t) right_term (Right kind a) (term_codec slots h) (λ t r. ((refl, sym z, r), refl)) (λ p w. let q = same_right kind z a p w in (q.0, q.1)))
       (λ p w. (same_right kind z a p w).2) (λ p w. w) (λ p w. w))
       (λ y. let z = eqb-false kind 0 y in

@@ -1,5 +1,5 @@
 -- A book is valid in at most one way, so that its validity can be the invariant of a type.
-use Rattle.std.proofs.Common.{◌≡◌, ℕ, List, [], ◌∷◌, ℤ, ◌≤ℤ◌, refl}
+use Rattle.std.proofs.Common.{ℕ, List, [], ◌∷◌, ℤ, ◌≤ℤ◌, refl}
 use mathlib.Core.Logic.{∥∥₁_elim}
 use Prim.{IsProp}
 use native.Mathlib.Bridge.{le_prop}

@@ -2,7 +2,7 @@
 use Rattle.std.specs.Prelude.{◌≡◌, ℕ, ◌≤◌, Bool, true, false, cond, ◌&&◌, ◌⊎◌, ◌↔◌, List, [], ◌∷◌, length, drop, Ok, Err, Result, ◌==◌, nat_lt}
 use Rattle.rules.specs.Books.{Book}
 use Rattle.rules.specs.Valids.{Valid}
-use Rattle.rules.specs.Format.{Bytes, mark, file_bytes}
+use Rattle.rules.specs.Format.{mark, file_bytes}
 use Rattle.rules.specs.Parse.{Outcome, got, refused, book}
 use Rattle.rules.specs.declared.LoadRefusal.{LoadRefusal}
 use Rattle.rules.specs.declared.LoadRefusal.TheVariants.{TooLong, Foreign, Trailing, NoMemory}

@@ -1,4 +1,6 @@
 // Rules as data, and the codes that a rule file is made of.
+#![tactic(auto)]
+
 ghost use Rattle.std.specs.Prelude.{◌≡◌, ◌≤◌, [], ◌∷◌, length, Some, vec_len};
 ghost use Rattle.rules.specs.Codes.{code_of, value_of};
 ghost use Rattle.rules.specs.Examples.{ValuesWritten, LastZeroRefused};

@@ -7,7 +7,7 @@ use Rattle.rules.proofs.signature.Signature.slots.Goals as goal
 pub loop-symbol-preserved : goal.loop-symbol-preserved
 loop-symbol-preserved c =
     let more = ap (slot_count c.args.self.now.arities.now) (take_more c.args.heads.now c.loop-symbol.symbol-index 0 c.loop-symbol-test.true) ∙ slot_count_push c.args.self.now.arities.now _ _ in
-    omega (arith, more, c.arity.ensures.value, c.saturating-add-slots.ensures, c.loop-symbol.invariant)
+    omega (arith, more, c.arity.ensures.value, c.saturating_add-slots.ensures, c.loop-symbol.invariant)
 
 pub returns : goal.returns
 returns c =
