@@ -1,5 +1,5 @@
 -- What one step of a reader does to the bytes ahead of it.
-use Rattle.std.proofs.Common.{◌≡◌, ℕ, zero, suc, ◌+◌, ◌-◌, ◌<◌, ◌≤◌, List, [], ◌∷◌, ◌++◌, length, get_or, drop, sym, refl, ap, ◌∙◌, subst, append_assoc, append-nil, add-one, arith, drop_of_length-le, drop-cons}
+use Rattle.std.proofs.Common.{◌≡◌, ℕ, suc, ◌+◌, ◌-◌, ◌<◌, ◌≤◌, List, [], ◌∷◌, ◌++◌, length, get_or, drop, sym, refl, ap, ◌∙◌, subst, append_assoc, append-nil, add-one, arith, drop_of_length-le, drop-cons}
 use native.Mathlib.Nat.{sub-zero}
 use Rattle.rules.specs.Parse.{Outcome, Parser, got, refused, after, byte, many}
 use Rattle.rules.specs.declared.LoadRefusal.{LoadRefusal}

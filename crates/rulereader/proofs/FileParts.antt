@@ -1,11 +1,11 @@
 -- A book and a file, from what their parts got.
-use Rattle.std.proofs.Common.{◌≡◌, ℕ, zero, suc, ◌<◌, ◌≤◌, true, ltb, List, [], ◌∷◌, map, length, get_or, drop, Ok, Err, Result, sym, refl, ap, ◌∙◌, subst, map-id, arith, drop_of_length-le, drop-cons}
+use Rattle.std.proofs.Common.{◌≡◌, ℕ, zero, suc, ◌<◌, ◌≤◌, true, ltb, List, [], ◌∷◌, map, length, get_or, drop, Ok, Err, Result, sym, refl, ap, ◌∙◌, subst, drop_of_length-le, drop-cons}
 use Rattle.std.proofs.lemmas.Bool.{ltb-false, le-ltb}
 use Rattle.terms.specs.Lists.{All}
 use Rattle.rules.specs.Books.{Book, Rule}
 use Rattle.rules.specs.Files.{begins, whole, file}
 use Rattle.rules.specs.Format.{mark}
-use Rattle.rules.specs.Parse.{Outcome, Parser, got, refused, after, number, ranged, many, list, rule, book}
+use Rattle.rules.specs.Parse.{Parser, got, refused, number, ranged, many, list, rule, book}
 use Rattle.rules.specs.declared.LoadRefusal.{LoadRefusal}
 use Rattle.rules.specs.declared.LoadRefusal.TheVariants.{TooLong, Foreign, Trailing}
 use Rattle.rules.proofs.Outcomes.{never, branch, inverted, got_is, step, fails, on, off}

@@ -4,8 +4,8 @@ use mathlib.Core.Path.{fun_ext}
 use Rattle.std.proofs.lemmas.Bool.{eq-eqb}
 use Rattle.terms.specs.declared.Primitive.{Primitive}
 use Rattle.terms.specs.declared.Term.{Term}
-use Rattle.rules.specs.Books.{Goal, add, Rule, slot_count}
-use Rattle.rules.specs.Parse.{Outcome, Parser, got, refused, after, ranged, index, term, guard, goal, addition, head_counts, many, list, rule_rest, rule}
+use Rattle.rules.specs.Books.{Goal, add, slot_count}
+use Rattle.rules.specs.Parse.{Outcome, Parser, got, refused, after, ranged, index, term, guard, goal, head_counts, many, list, rule_rest, rule}
 use Rattle.rules.proofs.Outcomes.{inverted, got_is, step, on}
 use Rattle.rulereader.specs.Heads.{rule_heads}
 use Rattle.rulereader.specs.Reads.{ahead, run, Passed}

@@ -1,5 +1,5 @@
 -- Whether bytes are left over. Assumes nothing.
-use Rattle.std.specs.Prelude.{◌≡◌, ℕ, ◌<◌, ◌≤◌, List, length, Some, None, Option}
+use Rattle.std.specs.Prelude.{◌≡◌, ℕ, ◌<◌, ◌≤◌, length, Some, None, Option}
 use Rattle.rulereader.specs.declared.reader.Reader.{Reader}
 
 -- the place of the first byte that is left over, or none

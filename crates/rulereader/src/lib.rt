@@ -1,4 +1,6 @@
 // Reads a rule file, each byte once, up to the first refusal.
+#![tactic(auto)]
+
 ghost use Rattle.std.specs.Prelude.{◌≡◌};
 ghost use Rattle.rules.specs.Files.{file, begins, Loaded};
 ghost use Rattle.rules.specs.Format.{mark};

@@ -6,10 +6,10 @@ use Rattle.rulereader.proofs.read_file.Goals as goal
 pub returns-in-Some : goal.returns-in-Some
 returns-in-Some c =
     let left = c.in-Some.ensures in
-    inl (file_over c.args.bytes.now (contents_book c.in-ok-contents.contents) c.after-mark-reader.result c.read-book.new.reader c.in-Some.place
-    (omega (arith, c.if-bytes-gt-LONGEST.false)) (sym c.if-not-is-marked.ensures) c.after-mark-reader.ensures.place c.after-mark-reader.ensures.bytes c.in-ok-contents.ensures left.0 left.1)
+    inl (file_over c.args.bytes.now (contents_book c.in_ok-contents.contents) c.after_mark-reader.result c.read_book.new.reader c.in-Some.place
+    (omega (arith, c.if-bytes-gt-LONGEST.false)) (sym c.if-not-is_marked.ensures) c.after_mark-reader.ensures.place c.after_mark-reader.ensures.bytes c.in_ok-contents.ensures left.0 left.1)
 
 pub returns-in-None : goal.returns-in-None
 returns-in-None c =
-    file_whole c.args.bytes.now (contents_book c.in-ok-contents.contents) c.after-mark-reader.result c.read-book.new.reader
-    (omega (arith, c.if-bytes-gt-LONGEST.false)) (sym c.if-not-is-marked.ensures) c.after-mark-reader.ensures.place c.after-mark-reader.ensures.bytes c.in-ok-contents.ensures c.in-None.ensures
+    file_whole c.args.bytes.now (contents_book c.in_ok-contents.contents) c.after_mark-reader.result c.read_book.new.reader
+    (omega (arith, c.if-bytes-gt-LONGEST.false)) (sym c.if-not-is_marked.ensures) c.after_mark-reader.ensures.place c.after_mark-reader.ensures.bytes c.in_ok-contents.ensures c.in-None.ensures

@@ -7,19 +7,19 @@ use Rattle.rulereader.proofs.production.parts.Goals as goal
 
 pub loop-init : goal.loop-init
 loop-init g c =
-    let made = c.in-ok-all.ensures in
+    let made = c.in_ok-all.ensures in
     (refl, rw made.items (sofar_none (g.P.Production.parser c.args.production.now) c.args.count c.args.reader.now.pos (ahead c.args.reader.now)), made.len, made.capacity)
 
-pub returns-in-err-part : goal.returns-in-err-part
-returns-in-err-part g c =
-    let p = err_from_is_err_and c.from-residual-in-err-part.result c.from-residual-in-err-part.ensures.1 in
-    rw (p.1, p.2) (⊎_elim (λ h. inl (sofar_refused (g.P.Production.parser c.args.production.now) _ _ _ _ _ _ _ c.loop-test.true c.loop.invariant.1 h)) inr c.in-err-part.ensures)
+pub returns-in_err-part : goal.returns-in_err-part
+returns-in_err-part g c =
+    let p = err_from_is_err_and c.from_residual-in_err-part.result c.from_residual-in_err-part.ensures.1 in
+    rw (p.1, p.2) (⊎_elim (λ h. inl (sofar_refused (g.P.Production.parser c.args.production.now) _ _ _ _ _ _ _ c.loop-test.true c.loop.invariant.1 h)) inr c.in_err-part.ensures)
 
 pub loop-preserved : goal.loop-preserved
 loop-preserved g c =
-    let pushed = ap (map g.P.Production.view) c.push-reserved.ensures.items ∙ map_push g.P.Production.view (vec_items c.loop.all) c.in-ok-part.part in
-    let step = sofar_more (g.P.Production.parser c.args.production.now) _ _ _ _ _ _ _ _ _ _ c.loop-test.true c.loop.invariant.1 c.in-ok-part.ensures.1 pushed in
-    (c.in-ok-part.ensures.0 ∙ c.loop.invariant.0, step, search rules, search rules)
+    let pushed = ap (map g.P.Production.view) c.push_reserved.ensures.items ∙ map_push g.P.Production.view (vec_items c.loop.all) c.in_ok-part.part in
+    let step = sofar_more (g.P.Production.parser c.args.production.now) _ _ _ _ _ _ _ _ _ _ c.loop-test.true c.loop.invariant.1 c.in_ok-part.ensures.1 pushed in
+    (c.in_ok-part.ensures.0 ∙ c.loop.invariant.0, step, search rules, search rules)
 
 pub returns : goal.returns
 returns g c = (c.loop.invariant.0, sofar_all (g.P.Production.parser c.args.production.now) _ _ _ _ _ _ c.loop-test.false c.loop.invariant.1)

@@ -8,14 +8,14 @@ use Rattle.rulereader.proofs.RuleParts.{rule_by_heads}
 use Rattle.rulereader.proofs.Tails.{loads_on}
 use Rattle.rulereader.proofs.rule.RulePartProduction.read.Goals as goal
 
-pub returns-in-err-kept : goal.returns-in-err-kept
-returns-in-err-kept c =
-    let p = err_from_is_err_and c.from-residual.result c.from-residual.ensures.1 in
+pub returns-in_err-kept : goal.returns-in_err-kept
+returns-in_err-kept c =
+    let p = err_from_is_err_and c.from_residual.result c.from_residual.ensures.1 in
     let whole = rule_by_heads c.args.self.now.signature.arities.now c.args.reader.now.pos (ahead c.args.reader.now) in
-    rw (p.1, p.2) (⊎_elim (λ h. inl (whole ∙ fails _ h)) inr c.in-err-kept.ensures.reads)
+    rw (p.1, p.2) (⊎_elim (λ h. inl (whole ∙ fails _ h)) inr c.in_err-kept.ensures.reads)
 
 pub returns : goal.returns
 returns c =
-    let heads = c.in-ok-kept.ensures.reads in
+    let heads = c.in_ok-kept.ensures.reads in
     let whole = rule_by_heads c.args.self.now.signature.arities.now c.args.reader.now.pos (ahead c.args.reader.now) in
-    loads_on rule_of (rule c.args.self.now.signature.arities.now) (rule_rest c.args.self.now.signature.arities.now c.in-ok-kept.kept (vec_items c.in-ok-kept.heads)) c.args.reader.now c.read-heads.new.reader c.read-rest.new.reader c.read-rest.result heads.0 (whole ∙ step _ heads.1 refl) c.read-rest.ensures
+    loads_on rule_of (rule c.args.self.now.signature.arities.now) (rule_rest c.args.self.now.signature.arities.now c.in_ok-kept.kept (vec_items c.in_ok-kept.heads)) c.args.reader.now c.read_heads.new.reader c.read_rest.new.reader c.read_rest.result heads.0 (whole ∙ step _ heads.1 refl) c.read_rest.ensures
