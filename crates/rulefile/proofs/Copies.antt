@@ -1,5 +1,5 @@
 -- A buffer as long as the file holds the file after a write.
-use Rattle.std.proofs.Common.{◌≡◌, ℕ, ◌≤◌, List, ◌++◌, length, drop, Ok, Err, Result, sym, ap, ◌∙◌, append-nil, arith, drop_of_length-le}
+use Rattle.std.proofs.Common.{◌≡◌, ℕ, ◌≤◌, List, ◌++◌, length, Ok, Err, Result, ap, ◌∙◌, append-nil, arith, drop_of_length-le}
 use Rattle.rulefile.specs.Outputs.{WrittenOut}
 use Rattle.rulefile.specs.declared.refusal.WriteRefusal.{WriteRefusal}
 use Rattle.rulefile.specs.declared.refusal.WriteRefusal.TheVariants.{ShortBuffer}

@@ -1,5 +1,5 @@
 -- The parts of valid rules can be written.
-use Rattle.std.proofs.Common.{◌≡◌, ℕ, suc, ◌≤◌, List, [], ◌∷◌, map, length, vec_items, vec_len, sym, refl, ap, ◌∙◌, subst, arith, take-append-drop}
+use Rattle.std.proofs.Common.{ℕ, ◌≤◌, List, [], ◌∷◌, map, length, vec_items, ap, arith, take-append-drop}
 use lib.ListN.{length-map}
 use Rattle.terms.specs.declared.Primitive.{Primitive}
 use Rattle.terms.specs.declared.Primitive.TheVariants.{Same, Least, Most}
@@ -7,7 +7,6 @@ use Rattle.terms.specs.declared.Term.{Term}
 use Rattle.terms.specs.declared.Term.TheVariants.{Value, Slot}
 use Rattle.terms.specs.Lists.{All}
 use Rattle.terms.specs.Primitives.{TermValid, PrimitiveValid}
-use Rattle.rules.specs.Books.{heads}
 use Rattle.rules.specs.Valids.{GoalValid, RuleValid, Valid}
 use Rattle.rules.specs.Views.{goal_of, rule_of, book_of}
 use Rattle.rules.specs.declared.Item.{Item}

@@ -1,5 +1,5 @@
 -- Which parts can be written: their values are values, and their lists are short. Assumes nothing.
-use Rattle.std.specs.Prelude.{ℕ, ◌≤◌, List, vec_items, vec_len}
+use Rattle.std.specs.Prelude.{◌≤◌, vec_items, vec_len}
 use Rattle.terms.specs.declared.Primitive.{Primitive}
 use Rattle.terms.specs.declared.Term.{Term}
 use Rattle.terms.specs.declared.Term.TheVariants.{Value, Slot}

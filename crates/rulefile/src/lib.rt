@@ -1,4 +1,6 @@
 // Loaded rules: made from the bytes of a file alone, and written out as those bytes.
+#![tactic(auto)]
+
 ghost use Rattle.std.specs.Prelude.{◌≡◌, IfOk};
 ghost use Rattle.rules.specs.Files.{file, Loaded, AcceptedExactly};
 ghost use Rattle.rulefile.specs.Rulebooks.{rules_book, copy_book};
@@ -19,7 +21,7 @@ use std::alloc::Global;
 pub fn load(heap: Global, bytes: &[u8]) -> Result<Rules, LoadRefusal>
     ensures answer { Loaded rules_book (file bytes.now) result }
     ensures law { AcceptedExactly bytes.now }
-    ensures unchanged { bytes.now ≡ bytes.now }
+    ensures unchanged { bytes.exit.now ≡ bytes.entry.now }
 {
     let contents = read_file(heap, bytes)?;
     Ok(Rules::new(contents, bytes.len()))
@@ -29,7 +31,7 @@ pub fn load(heap: Global, bytes: &[u8]) -> Result<Rules, LoadRefusal>
 pub fn load_and_write(heap: Global, bytes: &[u8]) -> Result<(Rules, Vec<u8>), LoadRefusal>
     ensures answer { Loaded copy_book (file bytes.now) result }
     ensures again { IfOk result (λ c. c.1.items ≡ bytes.now) }
-    ensures unchanged { bytes.now ≡ bytes.now }
+    ensures unchanged { bytes.exit.now ≡ bytes.entry.now }
 {
     let rules = load(heap, bytes)?;
     let mut copy = vec![in heap; 0; rules.file_len()]?;

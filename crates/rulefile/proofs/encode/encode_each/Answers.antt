@@ -11,10 +11,10 @@ loop-part-init g c = (refl, wrote_none c.args.writer.now)
 pub encode-requires : goal.encode-requires
 encode-requires g c = subst g.E.Encode.fit (sym c.part-item.is) (at_all g.E.Encode.fit c.args.parts.now c.loop-part.part-index c.part-item.result c.loop-part-test.true c.requires)
 
-pub returns-in-err-encode : goal.returns-in-err-encode
-returns-in-err-encode g c =
-    let p = err_from_is_err_and c.from-residual.result c.from-residual.ensures.1 in
-    let m = c.in-err-encode.ensures in
+pub returns-in_err-encode : goal.returns-in_err-encode
+returns-in_err-encode g c =
+    let p = err_from_is_err_and c.from_residual.result c.from_residual.ensures.1 in
+    let m = c.in_err-encode.ensures in
     let short = subst (λ x. length c.loop-part.writer.dst.now < c.loop-part.writer.pos + length (g.E.Encode.encoding x)) c.part-item.is m.wrote in
     record {
       same = m.same ∙ c.loop-part.invariant.0;
@@ -23,7 +23,7 @@ returns-in-err-encode g c =
 
 pub loop-part-preserved : goal.loop-part-preserved
 loop-part-preserved g c =
-    let m = c.in-ok-encode.ensures in
+    let m = c.in_ok-encode.ensures in
     let wrote = subst (λ x. Wrote (g.E.Encode.encoding x) c.loop-part.writer c.encode.new.writer) c.part-item.is m.wrote in
     (m.same ∙ c.loop-part.invariant.0, wrote_more g.E.Encode.encoding c.args.parts.now c.loop-part.part-index c.part-item.result c.args.writer.now c.loop-part.writer c.encode.new.writer c.loop-part-test.true c.loop-part.invariant.1 wrote)
 

@@ -1,4 +1,4 @@
 use Rattle.rulefile.proofs.loaded.Rules.new.Goals as goal
 
-pub invariant-of-result : goal.invariant-of-result
-invariant-of-result c = (∣ c.requires.valid ∣₁, (c.requires.sized, tt))
+pub invariant_of-result : goal.invariant_of-result
+invariant_of-result c = record { valid = ∣ c.requires.valid ∣₁; sized = c.requires.sized }
