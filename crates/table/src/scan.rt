@@ -34,9 +34,9 @@ impl PartnerTable for ScanTable {
 
     ghost limit = { 256 };
 
-    ghost some = { first_of (Prim.search rules, Prim.grind (arith, Self.row.coded.inj)) };
+    ghost some = { Prim.search rules };
 
-    ghost few = { first_of (Prim.search rules, Prim.grind (arith, Self.row.coded.inj)) };
+    ghost few = { Prim.search rules };
 
     ghost fits = { λ t i. look_fits t.rows.items.items t.rows.ok.0 i };
 

@@ -5,12 +5,12 @@ use Rattle.table.proofs.rows.all_fitting.Goals as goal
 
 pub loop-operand-preserved : goal.loop-operand-preserved
 loop-operand-preserved c =
-    ap (λ b. b && all_fitting (drop (c.loop-operand.operand-index + 1) c.args.arguments.now)) c.if-not-is-fitting.ensures
+    ap (λ b. b && all_fitting (drop (c.loop-operand.operand-index + 1) c.args.arguments.now)) c.if-not-is_fitting.ensures
     ∙ sym (at_drop_more all_fitting _ _ _ c.loop-operand-test.true) ∙ c.loop-operand.invariant
 
-pub returns-then-not-is-fitting : goal.returns-then-not-is-fitting
-returns-then-not-is-fitting c =
-    ap (λ b. b && all_fitting (drop (c.loop-operand.operand-index + 1) c.args.arguments.now)) c.if-not-is-fitting.ensures
+pub returns-then-not-is_fitting : goal.returns-then-not-is_fitting
+returns-then-not-is_fitting c =
+    ap (λ b. b && all_fitting (drop (c.loop-operand.operand-index + 1) c.args.arguments.now)) c.if-not-is_fitting.ensures
     ∙ sym (at_drop_more all_fitting _ _ _ c.loop-operand-test.true) ∙ c.loop-operand.invariant
 
 pub returns : goal.returns
