@@ -1,6 +1,6 @@
 -- A walk along a chain.
 use Rattle.std.proofs.Common.{◌≡◌, ℕ, zero, suc, ◌-◌, ◌^◌, ◌<◌, ◌≤◌, true, false, eqb, List, [], ◌∷◌, length, get_or, ℤ, Some, None, Option, sym, refl, ap, ◌∙◌, subst, inl, inr, arith}
-use Rattle.std.proofs.lemmas.Bool.{cases_lt, cases_bool, both_ways, and_parts, and_from, and_left, and_right, or_from, or_parts, eqb-true, eq-eqb, ne_eqb}
+use Rattle.std.proofs.lemmas.Bool.{cases_lt, cases_Bool, both_ways, and_parts, and_from, and_left, and_right, or_from, or_parts, eqb-true, eq-eqb, ne_eqb}
 use Rattle.terms.specs.Lists.{All}
 use Rattle.table.specs.Records.{Record, fit}
 use Rattle.table.specs.Nexts.{NextOf, answers, any_answers, has_symbol}
@@ -34,7 +34,7 @@ pub no_key : (s : ℕ) (key : Option ℤ) (rs : List Record) → any_answers (So
 no_key s key [] h = refl
 no_key s key (r ∷ rs) h =
     let p = or_parts _ _ h in
-    or_from _ _ (elim (cases_bool (has_symbol (Some s) r.symbol)) [
+    or_from _ _ (elim (cases_Bool (has_symbol (Some s) r.symbol)) [
       | inl y ↦ absurd (both_ways _ p.0 (and_from _ _ y refl))
       | inr n ↦ and_left _ _ n
     ]) (no_key s key rs p.1)

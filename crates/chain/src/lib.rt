@@ -1,3 +1,5 @@
+#![tactic(auto)]
+
 ghost use Rattle.std.specs.Prelude.{◌≡◌, ◌<◌, ◌≤◌, map, IfOk, Some, vec_len, vec_capacity};
 ghost use Rattle.chain.specs.Chains.{To, Linked, Stands, Before, relinked, shifted};
 ghost use Rattle.table.specs.Nexts.{NextOf};
@@ -100,9 +102,9 @@ impl PartnerTable for ChainTable {
 
     ghost limit = { 256 };
 
-    ghost some = { first_of (Prim.search rules, Prim.grind (arith, Self.row.coded.inj)) };
+    ghost some = { Prim.search rules };
 
-    ghost few = { first_of (Prim.search rules, Prim.grind (arith, Self.row.coded.inj)) };
+    ghost few = { Prim.search rules };
 
     ghost fits = { λ t i. look_fits t.rows.items.items t.rows.ok.0 i };
 

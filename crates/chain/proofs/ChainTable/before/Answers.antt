@@ -22,7 +22,7 @@ loop-at-smaller c =
     let xs = vec_items c.args.self.now.rows.items in
     let tr = subst (λ o. Trail xs c.args.symbol c.args.identifier c.loop-at.last o) c.in-Some.is c.loop-at.invariant in
     subst (λ o. left xs c.stand-rest.result.1 < left xs o) (sym c.in-Some.is)
-    (chain_falls xs c.in-Some.place c.stand-rest.result.0 c.stand-rest.result.1 (trail_in xs c.args.symbol c.args.identifier c.loop-at.last c.in-Some.place tr) c.stand-rest.ensures (omega (arith, c.identifier.ensures, c.identifier.type-inv)))
+    (chain_falls xs c.in-Some.place c.stand-rest.result.0 c.stand-rest.result.1 (trail_in xs c.args.symbol c.args.identifier c.loop-at.last c.in-Some.place tr) c.stand-rest.ensures (omega (arith, c.identifier.ensures, c.identifier.type_inv)))
 
 pub loop-at-preserved : goal.loop-at-preserved
 loop-at-preserved c =
@@ -36,4 +36,4 @@ returns c =
     let t = c.args.self.now in
     let xs = vec_items t.rows.items in
     trail_end xs c.args.symbol c.args.identifier c.loop-at.last t.rows.ok.0
-    (subst (λ o. Trail xs c.args.symbol c.args.identifier c.loop-at.last o) c.in-default.is c.loop-at.invariant)
+    (subst (λ o. Trail xs c.args.symbol c.args.identifier c.loop-at.last o) c.in_default.is c.loop-at.invariant)

@@ -27,7 +27,7 @@ loop-at-smaller c =
     let xs = vec_items c.args.self.now.rows.items in
     let w = subst (λ o. Way xs c.args.symbol c.args.key c.args.above o) c.in-Some.is c.loop-at.invariant in
     subst (λ o. left xs c.stand-rest.result.1 < left xs o) (sym c.in-Some.is)
-    (chain_falls xs c.in-Some.place c.stand-rest.result.0 c.stand-rest.result.1 w.1.0 c.stand-rest.ensures (omega (arith, c.identifier-identifier.ensures, c.identifier-identifier.type-inv)))
+    (chain_falls xs c.in-Some.place c.stand-rest.result.0 c.stand-rest.result.1 w.1.0 c.stand-rest.ensures (omega (arith, c.identifier-identifier.ensures, c.identifier-identifier.type_inv)))
 
 pub loop-at-preserved : goal.loop-at-preserved
 loop-at-preserved c =
@@ -45,4 +45,4 @@ returns c =
     let t = c.args.self.now in
     let xs = vec_items t.rows.items in
     way_ended xs t.rows.ok.0 c.args.symbol c.args.key c.args.above
-    (subst (λ o. Way xs c.args.symbol c.args.key c.args.above o) c.in-default.is c.loop-at.invariant)
+    (subst (λ o. Way xs c.args.symbol c.args.key c.args.above o) c.in_default.is c.loop-at.invariant)

@@ -15,9 +15,9 @@ returns c =
     let t = c.args.self.now in
     let xs = vec_items t.rows.items in
     let k = c.args.place in
-    let x = c.index-as-slice-place.result in
+    let x = c.index-as_slice-place.result in
     let l : k < length xs = omega (arith, c.requires, t.rows.items.ok.0) in
-    let at = get_or_read xs k x l (c.index-as-slice-place.is ∙ ap (λ zs. get_or zs k x) c.as-slice.ensures) in
+    let at = get_or_read xs k x l (c.index-as_slice-place.is ∙ ap (λ zs. get_or zs k x) c.as_slice.ensures) in
     let link = get_or_read (vec_items t.links) k c.index.result.now (omega (arith, l, (linked t.linked).long)) c.index.ensures None in
     record {
       at = at;

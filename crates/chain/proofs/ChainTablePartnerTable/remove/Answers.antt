@@ -11,8 +11,8 @@ remove-rest-requires c =
     let t = c.args.self.now in
     omega (arith, c.in-Some.ensures.place.0, (linked t.linked).long, t.links.ok.0)
 
-pub invariant-of-self : goal.invariant-of-self
-invariant-of-self c =
+pub invariant_of-self : goal.invariant_of-self
+invariant_of-self c =
     let t = c.args.self.now in
     let xs = vec_items t.rows.items in
     let links = vec_items t.links in
@@ -21,17 +21,16 @@ invariant-of-self c =
     let ls = vec_items c.remove-rest.new.self in
     let f = relinked p c.remove-rest.result in
     let ws = c.relink.new.links in
-    let ew : ws ≡ map f ls = c.relink.ensures ∙ ap (map f) c.as-mut-slice.ensures.value in (
-      (c.remove.ensures.limit ∙ t.wide.0, omega (arith, c.remove-rest.ensures.capacity, t.wide)),
-      (
-        ∣ chained_cut xs (vec_items c.remove.new.self.items) links ls _ t.heads _ p c.remove-rest.result blank t.rows.ok.0 at.0 (linked t.linked)
-            at.2 c.remove-rest.ensures.items
-            (get_or_read links p c.remove-rest.result (omega (arith, at.0, (linked t.linked).long)) c.remove-rest.ensures.value None)
-            (with_items_is c.remove-rest.new.self ws (ap length ew ∙ length-map ls f ∙ sym c.remove-rest.new.self.ok.0) ∙ ew)
-            c.relink-in-Some.ensures ∣₁,
-        tt,
-      ),
-    )
+    let ew : ws ≡ map f ls = c.relink.ensures ∙ ap (map f) c.as_mut_slice.ensures.value in
+    record {
+      wide = (c.remove.ensures.limit ∙ t.wide.0, omega (arith, c.remove-rest.ensures.capacity, t.wide));
+      linked =
+          ∣ chained_cut xs (vec_items c.remove.new.self.items) links ls _ t.heads _ p c.remove-rest.result blank t.rows.ok.0 at.0 (linked t.linked)
+          at.2 c.remove-rest.ensures.items
+          (get_or_read links p c.remove-rest.result (omega (arith, at.0, (linked t.linked).long)) c.remove-rest.ensures.value None)
+          (with_items_is c.remove-rest.new.self ws (ap length ew ∙ length-map ls f ∙ sym c.remove-rest.new.self.ok.0) ∙ ew)
+          c.relink-in-Some.ensures ∣₁;
+    }
 
 pub returns-in-Some : goal.returns-in-Some
 returns-in-Some c = record {
