@@ -1,4 +1,6 @@
 // A partner table with a few rows of its own before another partner table.
+#![tactic(auto)]
+
 ghost use Rattle.std.specs.Prelude.{◌≡◌, true, take, IfOk};
 ghost use Rattle.front.specs.Fronts.{own_limit, front_limit, own_records, front_records, OwnFirst};
 ghost use Rattle.table.specs.Records.{recorded, fit};
@@ -93,9 +95,9 @@ impl<P: PartnerTable> PartnerTable for FrontTable<P> {
 
     ghost limit = { front_limit P.PartnerTable.limit };
 
-    ghost some = { first_of (Prim.search rules, Prim.grind (arith, Self.row.coded.inj)) };
+    ghost some = { Prim.search rules };
 
-    ghost few = { first_of (Prim.search rules, Prim.grind (arith, Self.row.coded.inj)) };
+    ghost few = { Prim.search rules };
 
     ghost fits = { λ t i.
         let k = own_limit P.PartnerTable.limit in

@@ -6,6 +6,6 @@ use Rattle.front.proofs.FrontTable.new.Goals as goal
 
 pub returns : goal.returns
 returns g c = (
-  ap (λ xs. look (take (own_limit g.P.PartnerTable.limit) xs)) c.in-ok-own.ensures.0 ∙ ap look (take_none (own_limit g.P.PartnerTable.limit)),
+  ap (λ xs. look (take (own_limit g.P.PartnerTable.limit) xs)) c.in_ok-own.ensures.0 ∙ ap look (take_none (own_limit g.P.PartnerTable.limit)),
   refl,
 )

@@ -6,5 +6,5 @@ use Rattle.front.proofs.FrontTable.own_rows.Goals as goal
 pub returns-else-count-rows : goal.returns-else-count-rows
 returns-else-count-rows g c =
     let xs = vec_items c.args.self.now.own.items in
-    c.as-slice-rows.ensures
-    ∙ sym (take_all (own_limit g.P.PartnerTable.limit) xs (omega (arith, ap length c.as-slice-rows.ensures, c.own-capacity-count.ensures, c.if-count-rows.false)))
+    c.as_slice-rows.ensures
+    ∙ sym (take_all (own_limit g.P.PartnerTable.limit) xs (omega (arith, ap length c.as_slice-rows.ensures, c.own_capacity-count.ensures, c.if-count-rows.false)))

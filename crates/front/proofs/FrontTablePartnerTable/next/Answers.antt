@@ -13,5 +13,5 @@ returns g c =
     let b = g.P.PartnerTable.records t.behind in
     subst (λ o. NextOf (front_records limit (vec_items t.own.items) b) c.args.symbol c.args.key c.args.above o) (sym c.lower.ensures)
     (next_both own b c.args.symbol c.args.key c.args.above c.next-own.result c.next-behind.result
-    (subst (λ xs. NextOf (look xs) c.args.symbol c.args.key c.args.above c.next-own.result) c.own-rows.ensures c.next-own.ensures)
+    (subst (λ xs. NextOf (look xs) c.args.symbol c.args.key c.args.above c.next-own.result) c.own_rows.ensures c.next-own.ensures)
     c.next-behind.ensures)

@@ -11,9 +11,9 @@ loop-identifier-init g c =
 pub loop-identifier-preserved : goal.loop-identifier-preserved
 loop-identifier-preserved g c =
     let t = g.P.PartnerTable.records c.args.table.now in
-    subst (λ xs. Seen t c.args.symbol c.args.key c.in-Some.identifier xs) (sym c.in-ok-push.ensures.items)
+    subst (λ xs. Seen t c.args.symbol c.args.key c.in-Some.identifier xs) (sym c.in_ok-push.ensures.items)
     (seen_more t c.args.symbol c.args.key c.loop-identifier.above c.in-Some.identifier (vec_items c.loop-identifier.found) c.loop-identifier.invariant c.in-Some.ensures)
 
 pub returns : goal.returns
 returns g c =
-    seen_all (g.P.PartnerTable.records c.args.table.now) c.args.symbol c.args.key c.loop-identifier.above (vec_items c.loop-identifier.found) c.loop-identifier.invariant c.in-default.ensures
+    seen_all (g.P.PartnerTable.records c.args.table.now) c.args.symbol c.args.key c.loop-identifier.above (vec_items c.loop-identifier.found) c.loop-identifier.invariant c.in_default.ensures
