@@ -37,11 +37,11 @@ returns-then-one-other g c =
     (λ v f. (at_roots c.args.rows.now c.requires.rooted g.C.Content.holds c.args.a c.args.b c.root-one.result c.root-other.result c.requires.first c.requires.second
     c.root-one.ensures c.root-other.ensures v f).0 (ap v c.if-one-other.true))
 
-pub returns-in-default : goal.returns-in-default
-returns-in-default g c =
+pub returns-in_default : goal.returns-in_default
+returns-in_default g c =
     record {
       kept = refl;
-      never = λ v f e. (c.in-default.ensures (v c.args.a) (f.0 c.args.a)).1 (
+      never = λ v f e. (c.in_default.ensures (v c.args.a) (f.0 c.args.a)).1 (
         root_held c.args.rows.now c.requires.rooted g.C.Content.holds c.args.a c.root-one.result c.index-rows-one.result c.requires.first c.root-one.ensures v f,
         let P : ℤ → Type 0 = λ z. g.C.Content.holds (get_or c.args.rows.now c.root-other.result c.index-rows-other.result).content z in
             subst P (sym e) (root_held c.args.rows.now c.requires.rooted g.C.Content.holds c.args.b c.root-other.result c.index-rows-other.result c.requires.second c.root-other.ensures v f),

@@ -2,11 +2,11 @@ use Rattle.std.proofs.Common.{ℤ, sym, refl, ◌∙◌, subst}
 use Rattle.classes.proofs.Links.{along, held_read, parent_read, rank_read, meets, root_value, root_held, narrowed, restricted_iff}
 use Rattle.classes.proofs.rows.narrow.Goals as goal
 
-pub returns-in-default : goal.returns-in-default
-returns-in-default g c =
+pub returns-in_default : goal.returns-in_default
+returns-in_default g c =
     record {
       kept = refl;
-      never = λ v f e. (c.in-default.ensures (v c.args.x) (f.0 c.args.x)).1
+      never = λ v f e. (c.in_default.ensures (v c.args.x) (f.0 c.args.x)).1
           (root_held c.args.rows.now c.requires.rooted g.C.Content.holds c.args.x c.root-top.result c.index-rows-top.result c.requires.within c.root-top.ensures v f, e);
     }
 
