@@ -1,5 +1,5 @@
-use Rattle.std.proofs.Common.{◌<◌, length, sym, ap, ◌∙◌, arith}
-use Rattle.classes.specs.Rows.{standing_at}
+use Rattle.std.proofs.Common.{◌≡◌, ◌≢◌, ◌<◌, length, ap, ◌∙◌, arith}
+use Rattle.classes.specs.Rows.{parent_at, standing_at}
 use Rattle.classes.proofs.Links.{parent_read, rises, up_root, at_root}
 use Rattle.classes.proofs.rows.root.Goals as goal
 
@@ -12,7 +12,8 @@ loop-at-smaller g c =
     let f = parent_read rows at c.index-rows-at.result l in
     let d = c.requires.rooted.1 at l in
     let n = c.requires.rooted.0 in
-    let up = rises rows c.requires.rooted at l (λ q. c.loop-at-test.true (sym f ∙ q)) in
+    let moves : parent_at rows at ≢ at = omega arith in
+    let up = rises rows c.requires.rooted at l moves in
     let s = ap (standing_at rows) e in omega arith
 
 pub loop-at-preserved : goal.loop-at-preserved
@@ -29,5 +30,6 @@ returns g c =
     let rows = c.args.rows.now in
     let at = c.loop-at.at in
     let l : at < length rows = c.loop-at.invariant.0 in
-    at_root rows c.requires.rooted at c.args.x l (parent_read rows at c.index-rows-at.result l ∙ c.loop-at-test.false)
-    c.loop-at.invariant.1
+    let f = parent_read rows at c.index-rows-at.result l in
+    let top : parent_at rows at ≡ at = omega arith in
+    at_root rows c.requires.rooted at c.args.x l top c.loop-at.invariant.1
