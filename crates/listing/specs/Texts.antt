@@ -5,7 +5,7 @@ use Rattle.terms.specs.declared.Primitive.{Primitive}
 use Rattle.terms.specs.declared.Primitive.TheVariants.{Same, Least, Most}
 use Rattle.terms.specs.declared.Term.{Term}
 use Rattle.terms.specs.declared.Term.TheVariants.{Value, Slot}
-use Rattle.rules.specs.Books.{Goal, tell, add, Rule, Book, slot_count}
+use Rattle.rules.specs.Books.{Goal, tell, add, Rule, slot_count}
 
 -- texts with a comma and a space between each two
 abbrev pub separated : List (List ℕ) → List ℕ

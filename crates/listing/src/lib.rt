@@ -1,4 +1,6 @@
 // Loaded rules as CHR source text, which a Prolog system with CHR can read.
+#![tactic(auto)]
+
 ghost use Rattle.std.specs.Prelude.{◌≤◌, map, Some, vec_len};
 ghost use Rattle.std.specs.Fmt.{WritesOnOk};
 ghost use Rattle.terms.specs.Lists.{All};

@@ -9,13 +9,13 @@ use Rattle.listing.proofs.show_rules.Goals as goal
 pub loop-k-init : goal.loop-k-init
 loop-k-init g c plain = record { wrote = writes_in_calls_nil g.W.Write.write_str_gives _; plain = plain }
 
-pub show-rule-requires : goal.show-rule-requires
-show-rule-requires g c = heads_at c.args.rules.now c.loop-k.k c.index-rules-k.result c.loop-k-test.true c.index-rules-k.is c.requires
+pub show_rule-requires : goal.show_rule-requires
+show_rule-requires g c = heads_at c.args.rules.now c.loop-k.k c.index-rules-k.result c.loop-k-test.true c.index-rules-k.is c.requires
 
 pub loop-k-preserved : goal.loop-k-preserved
 loop-k-preserved g c plain =
     let before = c.loop-k.invariant plain in
-    let rule = c.in-ok-show-rule.ensures before.plain refl in
+    let rule = c.in_ok-show_rule.ensures before.plain refl in
     has_written_of_eq g.W.Write.write_str_gives _ _ _ _ (rules_more c.args.signature.arities.now c.args.rules.now c.loop-k.k c.index-rules-k.result c.loop-k-test.true c.index-rules-k.is)
     (has_written_append g.W.Write.write_str_gives _ _ _ _ _ before rule)
 

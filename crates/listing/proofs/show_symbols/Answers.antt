@@ -11,8 +11,8 @@ loop-k-init g c plain = record { wrote = writes_in_calls_nil g.W.Write.write_str
 pub loop-k-preserved : goal.loop-k-preserved
 loop-k-preserved g c plain =
     let before = c.loop-k.invariant plain in
-    let comma = c.in-ok-show-comma.ensures before.plain refl in
-    let symbol = c.in-ok-write.ensures.shows comma.plain refl in
+    let comma = c.in_ok-show_comma.ensures before.plain refl in
+    let symbol = c.in_ok-write.ensures.writes comma.plain refl in
     has_written_of_eq g.W.Write.write_str_gives _ _ _ _ (symbols_more c.args.arities.now c.loop-k.k-counter c.loop-k-test.true) (has_written_append g.W.Write.write_str_gives _ _ _ _ _ (has_written_append g.W.Write.write_str_gives _ _ _ _ _ before comma) symbol)
 
 pub returns : goal.returns

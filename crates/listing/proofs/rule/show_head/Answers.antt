@@ -10,4 +10,4 @@ pub returns : goal.returns
 returns g c plain ok =
     let k = c.args.first in
     let slots = ap (λ n. take n (Slot k ∷ Slot (k + 1) ∷ Slot (k + 2) ∷ Slot (k + 3) ∷ [])) (sub-zero c.args.count) ∙ slots_are k c.args.count c.requires.0 in
-    has_written_of_eq g.W.Write.write_str_gives _ _ _ _ (ap (constraint_text c.args.symbol) slots) (c.show-constraint.ensures plain ok)
+    has_written_of_eq g.W.Write.write_str_gives _ _ _ _ (ap (constraint_text c.args.symbol) slots) (c.show_constraint.ensures plain ok)

@@ -17,8 +17,8 @@ loop-i-preserved g c =
       omega (arith, inv.1, c.arity-count.ensures.few),
       λ plain.
           let before = inv.2 plain in
-          let comma = c.in-ok-show-comma.ensures before.plain refl in
-          let head = c.in-ok-show-head.ensures comma.plain refl in
+          let comma = c.in_ok-show_comma.ensures before.plain refl in
+          let head = c.in_ok-show_head.ensures comma.plain refl in
           has_written_of_eq g.W.Write.write_str_gives _ _ _ _
           (heads_more c.args.signature.arities.now c.args.first c.args.heads.now c.loop-i.i symbol c.loop-i.slot c.arity-count.result c.loop-i-test.true refl inv.0 c.arity-count.ensures.value)
           (has_written_append g.W.Write.write_str_gives _ _ _ _ _ (has_written_append g.W.Write.write_str_gives _ _ _ _ _ before comma) head),

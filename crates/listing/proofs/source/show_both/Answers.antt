@@ -4,6 +4,6 @@ use Rattle.listing.proofs.source.show_both.Goals as goal
 
 pub returns : goal.returns
 returns g c plain ok =
-    let first = c.in-ok-show.ensures plain refl in
-    let sign = c.in-ok-write-str.ensures.writes first.plain refl in
+    let first = c.in_ok-show.ensures plain refl in
+    let sign = c.in_ok-write_str.ensures.writes first.plain refl in
     has_written_append g.W.Write.write_str_gives _ _ _ _ _ (has_written_append g.W.Write.write_str_gives _ _ _ _ _ first sign) (c.show-2.ensures sign.plain ok)

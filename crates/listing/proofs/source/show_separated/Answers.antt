@@ -11,8 +11,8 @@ loop-i-init g c plain = record { wrote = writes_in_calls_nil g.W.Write.write_str
 pub loop-i-preserved : goal.loop-i-preserved
 loop-i-preserved g c plain =
     let before = c.loop-i.invariant plain in
-    let comma = c.in-ok-show-comma.ensures before.plain refl in
-    let part = c.in-ok-show.ensures comma.plain refl in
+    let comma = c.in_ok-show_comma.ensures before.plain refl in
+    let part = c.in_ok-show.ensures comma.plain refl in
     has_written_of_eq g.W.Write.write_str_gives _ _ _ _ (separated_more g.S.Source.text c.args.parts.now c.loop-i.i c.index-parts-i.result c.loop-i-test.true c.index-parts-i.is)
     (has_written_append g.W.Write.write_str_gives _ _ _ _ _ (has_written_append g.W.Write.write_str_gives _ _ _ _ _ before comma) part)
 
