@@ -1,4 +1,6 @@
 // Makes the calls that it reads on five partner tables, one table after the other, and prints what each answers.
+#![tactic(auto)]
+
 mod answers;
 mod calls;
 

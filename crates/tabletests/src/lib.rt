@@ -1,4 +1,6 @@
 // Examples of partner tables, on each kind of table.
+#![tactic(auto)]
+
 #[cfg(test)]
 mod tests {
     use chain::ChainTable;
