@@ -1,8 +1,8 @@
 -- Primitives told one after another, in any order.
 use Rattle.std.proofs.Common.{◌≡◌, ℕ, ◌+◌, ◌<◌, ◌≤◌, ◌↔◌, List, [], ◌∷◌, ◌++◌, length, get_or, take, sym, refl, ◌∙◌, subst}
-use Rattle.std.specs.List.{ContainsAt as Has, AllByRecursion as All}
+use Rattle.std.specs.List.{All, Contains}
 use Rattle.std.proofs.lemmas.List.{take_all, take_more}
-use Rattle.std.proofs.ByRecursion.{All-push, all-has, all_has_itself, All-weaker}
+use Rattle.std.proofs.lemmas.List.Elements.{All-nil, All-cons, All-head, All-tail, All-push, All-weaker, All-contains, All-contains_itself}
 use Rattle.terms.specs.declared.Operand.{Operand}
 use Rattle.terms.specs.declared.Primitive.{Primitive}
 use Rattle.terms.specs.Domains.{Domain, Valuation, TrueIn}
@@ -13,15 +13,15 @@ use Rattle.theory.specs.Says.{TellSays}
 use Rattle.theory.specs.Runs.{ToldAll, SameInAnyOrder}
 
 all_last : {X : Type 0} (P : X → Type 0) (xs : List X) (y : X) → All P (xs ++ y ∷ []) → All P xs × P y
-all_last P [] y a = (tt, a.0)
-all_last P (x ∷ xs) y a = let b = all_last P xs y a.1 in ((a.0, b.0), b.1)
+all_last P [] y a = (All-nil P, All-head P y [] a)
+all_last P (x ∷ xs) y a = let b = all_last P xs y (All-tail P x (xs ++ y ∷ []) a) in (All-cons P x xs (All-head P x (xs ++ y ∷ []) a) b.0, b.1)
 
-same_elements : {X : Type 0} (P : X → Type 0) (xs ys : List X) → ((x : X) → Has ys x → Has xs x) → All P xs → All P ys
-same_elements P xs ys e a = All-weaker (Has ys) P (λ x h. all-has P xs x a (e x h)) ys (all_has_itself ys)
+same_elements : {X : Type 0} (P : X → Type 0) (xs ys : List X) → ((x : X) → Contains ys x → Contains xs x) → All P xs → All P ys
+same_elements P xs ys e a = All-weaker (Contains ys) P (λ x h. All-contains P xs x a (e x h)) ys (All-contains_itself ys)
 
 module _ {d : Domain} where
   pub told_none : (m : Meaning d) → ToldAll m [] m
-  told_none m = (refl, λ v. (λ a. (a, tt), λ b. b.0))
+  told_none m = (refl, λ v. (λ a. (a, All-nil (λ p. KnownAll m.made p → TrueIn d v p)), λ b. b.0))
 
   module _ (m n k : Meaning d) (ps : List (Primitive Operand)) (p : Primitive Operand) (a : ToldAll m ps n) (e : k.made ≡ n.made) where
     push_known : KnownAll n.made p → ((v : Valuation d) → k.admits v ↔ (n.admits v × TrueIn d v p)) → ToldAll m (ps ++ p ∷ []) k

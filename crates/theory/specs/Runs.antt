@@ -1,6 +1,6 @@
 -- Primitives told one after another. Assumes nothing.
 use Rattle.std.specs.Prelude.{◌≡◌, ◌↔◌, List}
-use Rattle.std.specs.List.{ContainsAt as Has, AllByRecursion as All}
+use Rattle.std.specs.List.{All, Contains}
 use Rattle.terms.specs.declared.Operand.{Operand}
 use Rattle.terms.specs.declared.Primitive.{Primitive}
 use Rattle.terms.specs.Domains.{Domain, Valuation, TrueIn}
@@ -8,7 +8,7 @@ use Rattle.theory.specs.Meanings.{Meaning, KnownAll, SameMeaning}
 
 -- the same primitives, in whatever order and however often
 abbrev pub SamePrimitives : List (Primitive Operand) → List (Primitive Operand) → Type 0
-SamePrimitives ps qs = (p : Primitive Operand) → Has ps p ↔ Has qs p
+SamePrimitives ps qs = (p : Primitive Operand) → Contains ps p ↔ Contains qs p
 
 module _ {d : Domain} where
   -- after all of ps were told: what was admitted and makes each known one true

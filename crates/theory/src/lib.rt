@@ -1,5 +1,7 @@
 //! Theories: what is known of numbered variables, told and asked by primitives.
 
+#![tactic(auto)]
+
 pub mod bounds;
 mod classes_told;
 pub mod forest_theory;

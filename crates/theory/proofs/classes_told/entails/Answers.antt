@@ -14,11 +14,11 @@ returns-in-Same g c = asked_arm g.C.Interpreted.truth g.C.Content.holds c.args.f
 pub returns-in-Least : goal.returns-in-Least
 returns-in-Least g c =
     let n : SFits w32 c.in-Least.n = search rules in
-    asked_arm g.C.Interpreted.truth g.C.Content.holds c.args.forest.now c.args.p _ c.lies-in.result c.in-Least.is
-    (lies g.C.Interpreted.truth g.C.Content.holds c.args.forest.now c.at-least.result c.in-Least.a (λ z. g.C.Interpreted.truth.True (Least z c.in-Least.n)) (subst (λ (y : Primitive Operand). KnownAll (made_in c.args.forest.now) y) c.in-Least.is c.requires).0 (at_bits (λ (k : ℤ). Holding g.C.Content.holds (λ z. g.C.Interpreted.truth.True (Least z k)) c.at-least.result) c.in-Least.n n c.at-least.ensures) c.lies-in.result c.lies-in.ensures)
+    asked_arm g.C.Interpreted.truth g.C.Content.holds c.args.forest.now c.args.p _ c.lies_in.result c.in-Least.is
+    (lies g.C.Interpreted.truth g.C.Content.holds c.args.forest.now c.at_least.result c.in-Least.a (λ z. g.C.Interpreted.truth.True (Least z c.in-Least.n)) (subst (λ (y : Primitive Operand). KnownAll (made_in c.args.forest.now) y) c.in-Least.is c.requires).0 (at_bits (λ (k : ℤ). Holding g.C.Content.holds (λ z. g.C.Interpreted.truth.True (Least z k)) c.at_least.result) c.in-Least.n n c.at_least.ensures) c.lies_in.result c.lies_in.ensures)
 
 pub returns-in-Most : goal.returns-in-Most
 returns-in-Most g c =
     let n : SFits w32 c.in-Most.n = search rules in
-    asked_arm g.C.Interpreted.truth g.C.Content.holds c.args.forest.now c.args.p _ c.lies-in-in-Most.result c.in-Most.is
-    (lies g.C.Interpreted.truth g.C.Content.holds c.args.forest.now c.at-most.result c.in-Most.a (λ z. g.C.Interpreted.truth.True (Most z c.in-Most.n)) (subst (λ (y : Primitive Operand). KnownAll (made_in c.args.forest.now) y) c.in-Most.is c.requires).0 (at_bits (λ (k : ℤ). Holding g.C.Content.holds (λ z. g.C.Interpreted.truth.True (Most z k)) c.at-most.result) c.in-Most.n n c.at-most.ensures) c.lies-in-in-Most.result c.lies-in-in-Most.ensures)
+    asked_arm g.C.Interpreted.truth g.C.Content.holds c.args.forest.now c.args.p _ c.lies_in-in-Most.result c.in-Most.is
+    (lies g.C.Interpreted.truth g.C.Content.holds c.args.forest.now c.at_most.result c.in-Most.a (λ z. g.C.Interpreted.truth.True (Most z c.in-Most.n)) (subst (λ (y : Primitive Operand). KnownAll (made_in c.args.forest.now) y) c.in-Most.is c.requires).0 (at_bits (λ (k : ℤ). Holding g.C.Content.holds (λ z. g.C.Interpreted.truth.True (Most z k)) c.at_most.result) c.in-Most.n n c.at_most.ensures) c.lies_in-in-Most.result c.lies_in-in-Most.ensures)

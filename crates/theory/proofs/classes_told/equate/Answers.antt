@@ -13,12 +13,12 @@ returns-in-Variable-Variable g c =
     (told_equal g.C.Interpreted.truth g.C.Content.holds c.args.forest.now (Variable c.in-Variable-Variable.x) (Variable c.in-Variable-Variable.y) _
     (not_refused g.C.Content.holds c.args.forest.now _ _ c.join.result _ (subst (λ (y : Operand). Known (made_in c.args.forest.now) y) c.in-Variable-Variable.is-0 c.requires.first, subst (λ (y : Operand). Known (made_in c.args.forest.now) y) c.in-Variable-Variable.is-1 c.requires.second) c.join.ensures))
 
-pub returns-in-default-Value : goal.returns-in-default-Value
-returns-in-default-Value g c =
-    let n : SFits w32 c.in-default-Value.n = search rules in
-    narrowed_operands g.C.Interpreted.truth g.C.Content.holds c.args.forest.now c.args.a c.args.b _ _ _ refl c.in-default-Value.is-1
-    (told_equal g.C.Interpreted.truth g.C.Content.holds c.args.forest.now c.args.a (Value c.in-default-Value.n) _
-    (imposed g.C.Interpreted.truth g.C.Content.holds c.args.forest.now c.only.result c.args.a (λ z. z ≡ c.in-default-Value.n) c.requires.first (at_bits (λ (k : ℤ). Holding g.C.Content.holds (λ z. z ≡ k) c.only.result) c.in-default-Value.n n c.only.ensures) _ c.impose.ensures))
+pub returns-in_default-Value : goal.returns-in_default-Value
+returns-in_default-Value g c =
+    let n : SFits w32 c.in_default-Value.n = search rules in
+    narrowed_operands g.C.Interpreted.truth g.C.Content.holds c.args.forest.now c.args.a c.args.b _ _ _ refl c.in_default-Value.is-1
+    (told_equal g.C.Interpreted.truth g.C.Content.holds c.args.forest.now c.args.a (Value c.in_default-Value.n) _
+    (imposed g.C.Interpreted.truth g.C.Content.holds c.args.forest.now c.only.result c.args.a (λ z. z ≡ c.in_default-Value.n) c.requires.first (at_bits (λ (k : ℤ). Holding g.C.Content.holds (λ z. z ≡ k) c.only.result) c.in_default-Value.n n c.only.ensures) _ c.impose.ensures))
 
 pub returns-in-Value-default : goal.returns-in-Value-default
 returns-in-Value-default g c =

@@ -11,8 +11,8 @@ use Rattle.theory.proofs.classes_told.lies_in.Goals as goal
 
 pub returns-in-Variable : goal.returns-in-Variable
 returns-in-Variable g c =
-    lies_at g.C.Interpreted.truth g.C.Content.holds c.args.forest.now c.args.by c.args.a _ c.in-Variable.is c.lies-in.result
-    (of_made g.C.Content.holds c.args.forest.now _ _ c.lies-in.result (subst (λ (y : Operand). Known (made_in c.args.forest.now) y) c.in-Variable.is c.requires) c.lies-in.ensures)
+    lies_at g.C.Interpreted.truth g.C.Content.holds c.args.forest.now c.args.by c.args.a _ c.in-Variable.is c.lies_in.result
+    (of_made g.C.Content.holds c.args.forest.now _ _ c.lies_in.result (subst (λ (y : Operand). Known (made_in c.args.forest.now) y) c.in-Variable.is c.requires) c.lies_in.ensures)
 
 pub returns-then-failed : goal.returns-then-failed
 returns-then-failed g c =

@@ -4,8 +4,8 @@ use Rattle.theory.proofs.uses.tell_in_two_orders.Goals as goal
 pub returns : goal.returns
 returns g c =
     record {
-      first = c.tell-all.ensures;
-      second = c.tell-all-2.ensures;
-      alike = same_in_any_order (g.T.Theory.means c.args.one.now) (g.T.Theory.means c.tell-all.new.theory) (g.T.Theory.means c.args.other.now)
-          (g.T.Theory.means c.tell-all-2.new.theory) c.args.ps.now c.args.qs.now c.tell-all.ensures c.tell-all-2.ensures;
+      first = c.tell_all.ensures;
+      second = c.tell_all-2.ensures;
+      alike = same_in_any_order (g.T.Theory.means c.args.one.now) (g.T.Theory.means c.tell_all.new.theory) (g.T.Theory.means c.args.other.now)
+          (g.T.Theory.means c.tell_all-2.new.theory) c.args.ps.now c.args.qs.now c.tell_all.ensures c.tell_all-2.ensures;
     }

@@ -6,4 +6,4 @@ use Rattle.theory.proofs.forest_theory.ForestTheory.ask.Goals as goal
 pub returns : goal.returns
 returns g c =
     asked g.C.Interpreted.truth g.C.Content.holds c.args.self.now c.args.p c.entails.result
-    (subst (λ (k : ℕ). KnownAll k c.args.p) c.count.ensures c.if-not-is-known-all.ensures) c.entails.ensures
+    (subst (λ (k : ℕ). KnownAll k c.args.p) c.count.ensures c.if-not-is_known_all.ensures) c.entails.ensures
