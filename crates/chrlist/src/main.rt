@@ -1,4 +1,6 @@
 // Lists the rule file `rules.chr` as CHR source, and says whether it is written out the same.
+#![tactic(auto)]
+
 use listing::Listing;
 use rulefile::{Rules, load_and_write};
 use std::fs;

@@ -1,4 +1,6 @@
 // Loads rule files that are given line by line as decimal bytes, and prints what each load answers.
+#![tactic(auto)]
+
 use rulefile::load_and_write;
 use std::alloc::Global;
 

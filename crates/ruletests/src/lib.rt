@@ -1,4 +1,6 @@
 // Examples of rule files, as tests.
+#![tactic(auto)]
+
 #[cfg(test)]
 mod tests {
     use listing::Listing;
