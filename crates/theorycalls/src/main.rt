@@ -4,6 +4,8 @@
 //! `failed`, `fixed X`, `range X`, `tell PRIMITIVE` or `ask PRIMITIVE`. A primitive is `same A B`, `least A N` or
 //! `most A N`, and an operand a number, or `v` with a variable's number.
 
+#![tactic(auto)]
+
 use anyhow::anyhow;
 use classes::forest::Forest;
 use contents::content::Content;

@@ -1,5 +1,7 @@
 //! Examples of theories: each is proved safe, and run.
 
+#![tactic(auto)]
+
 #[cfg(test)]
 mod tests {
     use contents::content::Content;
