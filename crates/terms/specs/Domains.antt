@@ -3,7 +3,7 @@ use Rattle.std.specs.Prelude.{◌≡◌, ◌↔◌, ℕ, ℤ}
 use Rattle.terms.specs.declared.Operand.{Operand}
 use Rattle.terms.specs.declared.Operand.TheVariants.{Value, Variable}
 use Rattle.terms.specs.declared.Primitive.{Primitive}
-use Rattle.terms.specs.declared.Primitive.TheVariants.{Same, Least, Most}
+use Rattle.terms.specs.declared.Primitive.TheVariants.{Same}
 use Rattle.terms.specs.Values.{IsValue}
 use Rattle.terms.specs.Primitives.{map_primitive}
 

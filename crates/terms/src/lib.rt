@@ -1,4 +1,6 @@
 // Values, operands, terms and primitives: what constraints and rules are made of.
+#![tactic(auto)]
+
 ghost use Rattle.std.specs.Prelude.{◌≡◌};
 ghost use Rattle.terms.specs.Answers.{Answers};
 ghost use Rattle.terms.specs.Values.{IsValue, is_value};
