@@ -14,7 +14,7 @@ use Rattle.machine.specs.Matching.{Store, Firing, Matches, Applies, rule_at, hea
 use Rattle.machine.specs.Occurrences.{occurrences}
 use Rattle.machine.specs.Sheets.{Entry, goal, wake, active}
 use Rattle.machine.specs.Refined.{removes_nothing, names_any, Wakes}
-use Rattle.machine.proofs.Members.{mem_cases, mem_none, mem_left, mem_right, mem_map, mem_kept, mem_dec, mem_place, getD_mem, getD_in_drop, names_none_of}
+use Rattle.machine.proofs.Members.{mem_cases, mem_none, mem_left, mem_right, mem_map, mem_kept, mem_dec, mem_place, get_or_mem, get_or_in_drop, names_none_of}
 use Rattle.machine.proofs.Places.{occurs_somewhere, place}
 use Rattle.machine.proofs.Unique.{none_some, some_inj, matches_length}
 use Rattle.machine.proofs.Stores.{Agrees, matched_record, matches_at, survivors, survivor, survivors_agree, adding, unadded}
@@ -153,7 +153,7 @@ module _ (book : Book) where
     late_covers m i rest hist store none cov stands k tuple a b ap = covered_top (wake i) rest rest hist k tuple (λ x y. y) (λ j c e. let q : j ≡ i = cc in let r = matched_record store (heads (rule_at book k)) tuple ap.matches c in absurd (none_some (sym none ∙ mathlib.Core.Path.ap store (sym q) ∙ r.1))) (λ i' j l h c g e p o z. absurd (active_wake e)) (cov stands k tuple a b ap)
 
     pub dead_covers : (m : Meaning d) (i j : ℕ) (rest : List Entry) (hist : List Firing) (store : Store) → store i ≡ None → Covers book m (active i j ∷ rest) hist store → Covers book m rest hist store
-    dead_covers m i j rest hist store none cov stands k tuple a b ap = covered_top (active i j) rest rest hist k tuple (λ x y. y) (λ i' c e. absurd (wake_active e)) (λ i' j' l h c g e p o z. let q : i' ≡ i = cc in let r = matched_record store (heads (rule_at book k)) tuple ap.matches (getD_mem tuple h 0 c) in absurd (none_some (sym none ∙ mathlib.Core.Path.ap store (sym (g ∙ q)) ∙ r.1))) (cov stands k tuple a b ap)
+    dead_covers m i j rest hist store none cov stands k tuple a b ap = covered_top (active i j) rest rest hist k tuple (λ x y. y) (λ i' c e. absurd (wake_active e)) (λ i' j' l h c g e p o z. let q : i' ≡ i = cc in let r = matched_record store (heads (rule_at book k)) tuple ap.matches (get_or_mem tuple h 0 c) in absurd (none_some (sym none ∙ mathlib.Core.Path.ap store (sym (g ∙ q)) ∙ r.1))) (cov stands k tuple a b ap)
 
     -- nor does one beyond its occurrences
     pub over_covers : (m : Meaning d) (i j : ℕ) (rest : List Entry) (hist : List Firing) (store : Store) (r : Record) → store i ≡ Some r → ((1 ≤ j) × (j ≤ length (occurrences book r.symbol)) → ⊥) → Covers book m (active i j ∷ rest) hist store → Covers book m rest hist store
@@ -201,4 +201,4 @@ module _ (book : Book) where
 
         last : (c : Bool) → ltb h (length (rule_at book k).kept) ≡ c → Covered book (body ++ cond c (active i j ∷ rest) rest) hist' k' tuple'
         last true q = covered_more (active i j ∷ rest) (body ++ (active i j ∷ rest)) _ _ k' tuple' (λ x y. mem_right body y) (λ z. z) had
-        last false q = covered_top (active i j) rest (body ++ rest) _ k' tuple' (λ x y. mem_right body y) (λ i' c e. absurd (wake_active e)) (λ i' j' l h' c g e p o z. let w : i' ≡ i = cc in absurd (lives i (subst (λ x. x ∈ tuple') (g ∙ w) (getD_mem tuple' h' 0 c)) (subst (λ x. x ∈ out) at (getD_in_drop (length (rule_at book k).kept) h tuple 0 (ltb-false h (length (rule_at book k).kept) q) lh)))) had
+        last false q = covered_top (active i j) rest (body ++ rest) _ k' tuple' (λ x y. mem_right body y) (λ i' c e. absurd (wake_active e)) (λ i' j' l h' c g e p o z. let w : i' ≡ i = cc in absurd (lives i (subst (λ x. x ∈ tuple') (g ∙ w) (get_or_mem tuple' h' 0 c)) (subst (λ x. x ∈ out) at (get_or_in_drop (length (rule_at book k).kept) h tuple 0 (ltb-false h (length (rule_at book k).kept) q) lh)))) had

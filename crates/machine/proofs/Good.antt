@@ -24,7 +24,7 @@ use Rattle.machine.specs.Matching.{Store, no_rule, rule_at, fill, fill_goal, arg
 use Rattle.machine.specs.Sheets.{Entry, goal, wake, active, Config, StepAnswer}
 use Rattle.machine.specs.Refined as ref
 use Rattle.machine.specs.Refined.{meaning, living, Waits, Turn, Postable, Opened, StepSays, VariableSays, PostSays}
-use Rattle.machine.proofs.Members.{mem_cases, mem_none, mem_append, mem_map_back, all_from, all_mem, getD_mem}
+use Rattle.machine.proofs.Members.{mem_cases, mem_none, mem_append, mem_map_back, all_from, all_mem, get_or_mem}
 use Rattle.machine.proofs.Places.{occurs_bounds}
 use Rattle.machine.proofs.Unique.{none_some}
 use Rattle.machine.proofs.Stores.{survivor, added_cases, living_with, living_without, slot_all}
@@ -72,7 +72,7 @@ good_goal_more book m n l (add c xs) k = (k.0, all_known_more m n l xs k.1)
 
 -- a rule of a valid book is valid
 pub rule_valid : (book : Book) → Valid book → (k : ℕ) → 1 ≤ k → k ≤ length book.rules → RuleValid book.arities (rule_at book k)
-rule_valid book valid k a b = all_mem (RuleValid book.arities) valid.rules (getD_mem book.rules (k - 1) no_rule (omega arith))
+rule_valid book valid k a b = all_mem (RuleValid book.arities) valid.rules (get_or_mem book.rules (k - 1) no_rule (omega arith))
 
 module _ (book : Book) (made n : ℕ) (at : ℕ → Operand) (known : (k : ℕ) → k < n → Known made (at k)) where
   good_term : (t : Term) → TermValid n t → Known made (fill at t)

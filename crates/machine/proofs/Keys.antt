@@ -46,15 +46,15 @@ keyed (Some v) [] f = refl
 keyed (Some v) (Value w ∷ xs) f = same_key v w (f v w refl refl)
 keyed (Some v) (Variable x ∷ xs) f = refl
 
-nth_getD : {A : Type 0} (xs : List A) (k : ℕ) (d x : A) → nth xs k ≡ Some x → get_or xs k d ≡ x
-nth_getD [] k d x e = absurd (none_some e)
-nth_getD (y ∷ xs) zero d x e = some_inj e
-nth_getD (y ∷ xs) (suc k) d x e = nth_getD xs k d x e
+nth_get_or : {A : Type 0} (xs : List A) (k : ℕ) (d x : A) → nth xs k ≡ Some x → get_or xs k d ≡ x
+nth_get_or [] k d x e = absurd (none_some e)
+nth_get_or (y ∷ xs) zero d x e = some_inj e
+nth_get_or (y ∷ xs) (suc k) d x e = nth_get_or xs k d x e
 
 module _ (arities : List ℕ) (store : Store) where
   argument_is : (o : Option Record) (k : ℕ) (x : Operand) → argument_of o k ≡ Some x → get_or (arguments_of o) k (Value (pos 0)) ≡ x
   argument_is None k x e = absurd (none_some e)
-  argument_is (Some r) k x e = nth_getD r.arguments k (Value (pos 0)) x e
+  argument_is (Some r) k x e = nth_get_or r.arguments k (Value (pos 0)) x e
 
   filled_is : (f : Option ℕ) (i k : ℕ) (x : Operand) → ((j : ℕ) → f ≡ Some j → i ≡ j) → filled_argument store f k ≡ Some x → get_or (arguments_of (store i)) k (Value (pos 0)) ≡ x
   filled_is None i k x a e = absurd (none_some e)

@@ -15,12 +15,12 @@ dec_both (yes a) (yes b) = yes (a, b)
 dec_both (yes a) (no n) = no (λ z. n z.1)
 dec_both (no n) b = no (λ z. n z.0)
 
-dec_T : (b : Bool) → Dec (T b)
-dec_T true = yes tt
-dec_T false = no (λ z. z)
+dec_test : (b : Bool) → Dec (T b)
+dec_test true = yes tt
+dec_test false = no (λ z. z)
 
 dec_le : (a b : ℤ) → Dec (a ≤ℤ b)
-dec_le a b = go (dec_T (le_z a b))
+dec_le a b = go (dec_test (le_z a b))
   where
     go : Dec (T (le_z a b)) → Dec (a ≤ℤ b)
     go (yes t) = yes (le_z_yes t)

@@ -23,7 +23,7 @@ use Rattle.machine.specs.Refined.{rule_of, Becomes, Waits, meaning, living, Turn
 use Rattle.machine.specs.Abstract.{pending_of}
 use Rattle.machine.specs.Readings.{Reading, Obeys, ObeysRule, GoalHolds, RecordHolds}
 use Rattle.machine.specs.Statements.{accepted, postings, Held}
-use Rattle.machine.proofs.Members.{mem_cases, mem_none, mem_left, mem_append, getD_mem, all_map, all_append, all_parts, all_mem, all_from, memberb_in, memberb_not}
+use Rattle.machine.proofs.Members.{mem_cases, mem_none, mem_left, mem_append, get_or_mem, all_map, all_append, all_parts, all_mem, all_from, memberb_in, memberb_not}
 use Rattle.machine.proofs.Unique.{none_some, some_inj}
 use Rattle.machine.proofs.Trails.{accepted_more, accepted_step}
 use Rattle.machine.proofs.Stores.{living_with, living_without}
@@ -209,7 +209,7 @@ module _ {A B : Type 0} (T : Theory.Ghosts A) (P : PartnerTable.Ghosts B) where
       valid = rule_valid s.book good.valid k bounds.0 bounds.1
 
       obeys : ObeysRule T.domain R s.book.arities (rule_of s k)
-      obeys = all_mem (ObeysRule T.domain R s.book.arities) o (getD_mem s.book.rules (k - 1) no_rule (omega (arith, bounds.0, bounds.1)))
+      obeys = all_mem (ObeysRule T.domain R s.book.arities) o (get_or_mem s.book.rules (k - 1) no_rule (omega (arith, bounds.0, bounds.1)))
 
       before : pending_of s.waiting ≡ pending_of rest
       before = ap pending_of turn.top

@@ -75,10 +75,10 @@ module _ {A : Type 0} where
   mem_place d here = (0, omega arith, refl)
   mem_place d (there m) = let r = mem_place d m in (suc r.0, omega (arith, r.1), r.2)
 
-  pub getD_mem : (xs : List A) (n : ℕ) (d : A) → n < length xs → get_or xs n d ∈ xs
-  getD_mem [] n d h = absurd (not-suc-le-zero h)
-  getD_mem (x ∷ xs) zero d h = here
-  getD_mem (x ∷ xs) (suc n) d h = there (getD_mem xs n d (omega arith))
+  pub get_or_mem : (xs : List A) (n : ℕ) (d : A) → n < length xs → get_or xs n d ∈ xs
+  get_or_mem [] n d h = absurd (not-suc-le-zero h)
+  get_or_mem (x ∷ xs) zero d h = here
+  get_or_mem (x ∷ xs) (suc n) d h = there (get_or_mem xs n d (omega arith))
 
   pub all_get_d : (P : A → Type 0) (xs : List A) (n : ℕ) (d : A) → All P xs → P d → P (get_or xs n d)
   all_get_d P [] n d a p = p
@@ -90,11 +90,11 @@ module _ {A : Type 0} where
   mem_drop (suc n) [] m = m
   mem_drop (suc n) (y ∷ xs) m = there (mem_drop n xs m)
 
-  pub getD_in_drop : (n h : ℕ) (xs : List A) (d : A) → n ≤ h → h < length xs → get_or xs h d ∈ drop n xs
-  getD_in_drop zero h xs d a b = getD_mem xs h d b
-  getD_in_drop (suc n) h [] d a b = absurd (not-suc-le-zero b)
-  getD_in_drop (suc n) zero (x ∷ xs) d a b = absurd (not-suc-le-zero a)
-  getD_in_drop (suc n) (suc h) (x ∷ xs) d a b = getD_in_drop n h xs d (omega arith) (omega arith)
+  pub get_or_in_drop : (n h : ℕ) (xs : List A) (d : A) → n ≤ h → h < length xs → get_or xs h d ∈ drop n xs
+  get_or_in_drop zero h xs d a b = get_or_mem xs h d b
+  get_or_in_drop (suc n) h [] d a b = absurd (not-suc-le-zero b)
+  get_or_in_drop (suc n) zero (x ∷ xs) d a b = absurd (not-suc-le-zero a)
+  get_or_in_drop (suc n) (suc h) (x ∷ xs) d a b = get_or_in_drop n h xs d (omega arith) (omega arith)
 
   pub mem_kept : (p : A → Bool) {x : A} {xs : List A} → x ∈ xs → p x ≡ true → x ∈ filter p xs
   mem_kept p {x} (here {xs = ys}) e = subst (λ b. x ∈ cond b (x ∷ filter p ys) (filter p ys)) (sym e) here

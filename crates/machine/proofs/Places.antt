@@ -5,7 +5,7 @@ use Rattle.machine.specs.Lists.{◌∈◌}
 use Rattle.rules.specs.Books.{Rule, Book, heads}
 use Rattle.machine.specs.Matching.{no_rule, rule_at}
 use Rattle.machine.specs.Occurrences.{places_from, occurrences_from, occurrences}
-use Rattle.machine.proofs.Members.{mem_cases, mem_none, here_at, mem_left, mem_right, mem_append, mem_place, getD_mem}
+use Rattle.machine.proofs.Members.{mem_cases, mem_none, here_at, mem_left, mem_right, mem_append, mem_place, get_or_mem}
 
 abbrev pub place : ℕ → ℕ → ℕ × ℕ
 place k h = (k, h)
@@ -50,4 +50,4 @@ module _ (book : Book) where
   occurs_somewhere k h a b c = let m : (1 + (k - 1), h) ∈ occurrences book (get_or (heads (rule_at book k)) h 0) = occurrences_have (get_or (heads (rule_at book k)) h 0) 1 book.rules (k - 1) h (omega arith) c refl in let p = mem_place (0, 0) m in let e : 1 + (k - 1) ≡ k = omega arith in (suc p.0, omega arith, omega (arith, p.1), subst (λ (z : ℕ). get_or (occurrences book (get_or (heads (rule_at book k)) h 0)) z (0, 0) ≡ (k, h)) (omega arith) (p.2 ∙ ap (λ (z : ℕ). place z h) e))
 
   pub occurs_bounds : (s j k h : ℕ) → 1 ≤ j → j ≤ length (occurrences book s) → get_or (occurrences book s) (j - 1) (0, 0) ≡ (k, h) → (1 ≤ k) × (k ≤ length book.rules) × (h < length (heads (rule_at book k)))
-  occurs_bounds s j k h a b e = let p = occurrences_only s 1 book.rules (get_or (occurrences book s) (j - 1) (0, 0)) (getD_mem (occurrences book s) (j - 1) (0, 0) (omega arith)) in let k_is : k ≡ 1 + p.0 = sym (ap (λ (q : ℕ × ℕ). q.0) e) ∙ p.1 in let h_is : (get_or (occurrences book s) (j - 1) (0, 0)).1 ≡ h = ap (λ (q : ℕ × ℕ). q.1) e in let n_is : p.0 ≡ k - 1 = omega arith in (omega arith, omega (arith, p.2), subst (λ (n : ℕ). h < length (heads (get_or book.rules n no_rule))) n_is (omega (arith, p.3)))
+  occurs_bounds s j k h a b e = let p = occurrences_only s 1 book.rules (get_or (occurrences book s) (j - 1) (0, 0)) (get_or_mem (occurrences book s) (j - 1) (0, 0) (omega arith)) in let k_is : k ≡ 1 + p.0 = sym (ap (λ (q : ℕ × ℕ). q.0) e) ∙ p.1 in let h_is : (get_or (occurrences book s) (j - 1) (0, 0)).1 ≡ h = ap (λ (q : ℕ × ℕ). q.1) e in let n_is : p.0 ≡ k - 1 = omega arith in (omega arith, omega (arith, p.2), subst (λ (n : ℕ). h < length (heads (get_or book.rules n no_rule))) n_is (omega (arith, p.3)))

@@ -2,10 +2,10 @@
 use Rattle.std.proofs.Common.{◌≡◌, ℕ, ◌+◌, ◌<◌, ◌≤◌, List, [], ◌∷◌, ◌++◌, length, get_or, take, set, sym, ap, ◌∙◌, subst, arith, length-append}
 use Rattle.std.proofs.lemmas.List.{get_or-take, length-take-le, same_lists, get_or_default, take_all, take_more_set}
 use Rattle.machine.specs.Lists.{◌∈◌}
-use Rattle.machine.proofs.Members.{getD_mem, mem_place}
+use Rattle.machine.proofs.Members.{get_or_mem, mem_place}
 
 pub in_take : (xs : List ℕ) (n k x : ℕ) → k < n → n ≤ length xs → get_or xs k 0 ≡ x → x ∈ take n xs
-in_take xs n k x l m e = subst (λ z. z ∈ take n xs) (get_or-take n xs k 0 l ∙ e) (getD_mem (take n xs) k 0 (omega (arith, length-take-le n xs m)))
+in_take xs n k x l m e = subst (λ z. z ∈ take n xs) (get_or-take n xs k 0 l ∙ e) (get_or_mem (take n xs) k 0 (omega (arith, length-take-le n xs m)))
 
 pub not_in_take : (xs : List ℕ) (n x : ℕ) → n ≤ length xs → ((k : ℕ) → k < n → get_or xs k 0 ≡ x → ⊥) → x ∈ take n xs → ⊥
 not_in_take xs n x m f i = let p = mem_place 0 i in let l : p.0 < n = omega (arith, p.1, length-take-le n xs m) in f p.0 l (sym (get_or-take n xs p.0 0 l) ∙ p.2)

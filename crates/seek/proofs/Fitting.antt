@@ -9,7 +9,7 @@ use Rattle.table.specs.Records.{Record, symbol_of, fit}
 use Rattle.table.specs.Looks.{low_fit, high_fit}
 use Rattle.machine.specs.Lists.{◌∈◌, there, Distinct, NoLater}
 use Rattle.machine.specs.Matching.{Store, Matches, arguments_of}
-use Rattle.machine.proofs.Members.{mem_cases, mem_none, mem_right, mem_append, getD_mem, here_at}
+use Rattle.machine.proofs.Members.{mem_cases, mem_none, mem_right, mem_append, get_or_mem, here_at}
 use Rattle.machine.proofs.Unique.{none_some, some_inj}
 
 -- a first record with the symbol and the key answers to them
@@ -62,7 +62,7 @@ distinct_next (x ∷ pre) y ys d m = go (λ n. distinct_next pre y ys d.1 n) (me
 -- nor is it what stands elsewhere
 pub distinct_at : (pre : List ℕ) (y : ℕ) (ys : List ℕ) (h : ℕ) → Distinct (pre ++ (y ∷ ys)) → h < length (pre ++ (y ∷ ys)) → get_or (pre ++ (y ∷ ys)) h 0 ≡ y → h ≡ length pre
 distinct_at [] y ys zero d l e = refl
-distinct_at [] y ys (suc h) d l e = absurd (d.0 (subst (λ z. z ∈ ys) e (getD_mem ys h 0 (omega arith))))
+distinct_at [] y ys (suc h) d l e = absurd (d.0 (subst (λ z. z ∈ ys) e (get_or_mem ys h 0 (omega arith))))
 distinct_at (x ∷ pre) y ys zero d l e = absurd (d.0 (mem_right pre (here_at ys e)))
 distinct_at (x ∷ pre) y ys (suc h) d l e = ap suc (distinct_at pre y ys h d.1 (omega arith) e)
 

@@ -4,10 +4,10 @@ use Rattle.std.proofs.lemmas.List.{get_or_read, take_more}
 use Rattle.std.proofs.lemmas.Bool.{cases_lt}
 use Rattle.terms.specs.Lists.{All}
 use Rattle.machine.specs.Lists.{◌∈◌}
-use Rattle.machine.proofs.Members.{getD_mem, mem_place, mem_map, mem_map_back}
+use Rattle.machine.proofs.Members.{get_or_mem, mem_place, mem_map, mem_map_back}
 
 pub in_map : {A B : Type 0} (f : A → B) (xs : List A) (k : ℕ) (x : A) (y : B) → k < length xs → x ≡ get_or xs k x → f x ≡ y → y ∈ map f xs
-in_map f xs k x y l e q = subst (λ z. z ∈ map f xs) (ap f (sym e) ∙ q) (mem_map f (getD_mem xs k x l))
+in_map f xs k x y l e q = subst (λ z. z ∈ map f xs) (ap f (sym e) ∙ q) (mem_map f (get_or_mem xs k x l))
 
 pub not_in_map : {A B : Type 0} (f : A → B) (xs : List A) (y : B) → ((k : ℕ) (d : A) → k < length xs → f (get_or xs k d) ≡ y → ⊥) → y ∈ map f xs → ⊥
 not_in_map f xs y n m = let b = mem_map_back f xs m in let p = mem_place b.0 b.1 in n p.0 b.0 p.1 (ap f p.2 ∙ sym b.2)

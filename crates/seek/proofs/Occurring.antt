@@ -10,7 +10,7 @@ use Rattle.rules.specs.declared.Rule as code
 use Rattle.machine.specs.Matching.{no_rule}
 use Rattle.machine.specs.Lists.{◌∈◌}
 use Rattle.machine.specs.Occurrences.{places_from, occurrences_from}
-use Rattle.machine.proofs.Members.{getD_mem, mem_map, all_mem}
+use Rattle.machine.proofs.Members.{get_or_mem, mem_map, all_mem}
 
 places_push : (k s : ℕ) (xs : List ℕ) (x h : ℕ) → places_from k s (xs ++ (x ∷ [])) h ≡ cond (eqb x s) ((k, h + length xs) ∷ []) [] ++ places_from k s xs h
 places_push k s [] x h = ap (λ (n : ℕ). cond (eqb x s) ((k, n) ∷ []) []) (sym (add-zero h)) ∙ sym (append-nil (cond (eqb x s) ((k, h + 0) ∷ []) []))
@@ -52,7 +52,7 @@ module _ {A : Type 0} (f : A → Rule) (xs : List A) (i : ℕ) (x : A) (l : i < 
 
   -- a rule of a valid book is valid
   pub valid_at : (b : Book) → map f xs ≡ b.rules → Valid b → RuleValid b.arities (f x)
-  valid_at b q v = all_mem (RuleValid b.arities) v.rules (subst (λ z. f x ∈ z) q (mem_map f (subst (λ z. z ∈ xs) (sym e) (getD_mem xs i x l))))
+  valid_at b q v = all_mem (RuleValid b.arities) v.rules (subst (λ z. f x ∈ z) q (mem_map f (subst (λ z. z ∈ xs) (sym e) (get_or_mem xs i x l))))
 
 -- the heads of a rule, as the code has them
 pub heads_are : (r : code.Rule) → vec_items r.heads ≡ heads (rule_of r)
