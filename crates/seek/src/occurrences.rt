@@ -20,7 +20,8 @@ pub fn rule(rules: &Rules, number: usize) -> Option<&Rule>
     if number == 0 || number > all.len() {
         return None;
     }
-    Some(&all[number - 1])
+    let place = number - 1;
+    Some(&all[place])
 }
 
 /// The place of the head with the symbol that comes `index` after the last such head, counted from the last to the first; or how many of `index` are left where there are too few.

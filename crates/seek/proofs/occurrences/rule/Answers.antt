@@ -12,7 +12,7 @@ pub returns : goal.returns
 returns c = record {
   value = record {
     range = record { low = omega (arith, c.if-number-eq0.false); high = omega (arith, c.if-number-all.false, ap length c.rules-all.ensures.value, length-map c.rules-all.result.now rule_of) };
-    is = at_number rule_of c.rules-all.result.now (c.args.number - 1) c.index-all-number.result (omega (arith, c.if-number-eq0.false, c.if-number-all.false)) c.index-all-number.is c.args.number (rules_book c.args.rules.now).rules c.rules-all.ensures.value refl;
+    is = at_number rule_of c.rules-all.result.now (c.args.number - 1) c.index-all-place.result (omega (arith, c.if-number-eq0.false, c.if-number-all.false)) c.index-all-place.is c.args.number (rules_book c.args.rules.now).rules c.rules-all.ensures.value refl;
   };
   valid = c.rules-all.ensures.valid;
 }
