@@ -1,7 +1,8 @@
 // Values, operands, terms and primitives: what constraints and rules are made of.
 #![tactic(auto)]
 
-ghost use Rattle.std.specs.Prelude.{◌≡◌};
+ghost use Rattle.std.specs.Prelude.{◌≡◌, pos};
+ghost use Rattle.terms.specs.declared.Operand.TheVariants.{Value};
 ghost use Rattle.terms.specs.Answers.{Answers};
 ghost use Rattle.terms.specs.Values.{IsValue, is_value};
 
@@ -16,6 +17,15 @@ pub const GREATEST_VALUE: i32 = 1_000_000;
 pub enum Operand {
     Value(i32),
     Variable(u8),
+}
+
+impl Default for Operand {
+    ghost is_default = { λ a. a ≡ Value (pos 0) };
+
+    /// The value 0.
+    fn default() -> Operand {
+        Operand::Value(0)
+    }
 }
 
 /// What a rule says of an argument: a value, or the slot whose operand it is.
@@ -38,5 +48,5 @@ pub fn is_value(n: i32) -> bool
     ensures test { result ≡ is_value n }
     ensures range { Answers result (IsValue n) }
 {
-    LEAST_VALUE <= n && n <= GREATEST_VALUE
+    (LEAST_VALUE..=GREATEST_VALUE).contains(&n)
 }
