@@ -1,8 +1,9 @@
 -- The constraints to wake, found one after the other. Assumes nothing.
-use Rattle.std.proofs.Common.{◌≡◌, ℕ, zero, suc, ◌+◌, ◌-◌, ◌<◌, ◌≤◌, Bool, true, false, ◌&&◌, ltb, leb, ◌⊎◌, List, [], ◌∷◌, ◌++◌, length, take, Some, None, Option, sym, refl, ap, ◌∙◌, subst, inl, inr, arith}
+use Rattle.std.proofs.Common.{◌≡◌, ℕ, zero, suc, ◌+◌, ◌<◌, ◌≤◌, Bool, true, false, ◌&&◌, ltb, leb, ◌⊎◌, List, [], ◌∷◌, ◌++◌, length, take, get_or, Some, None, Option, MatchBool, sym, refl, ap, ◌∙◌, subst, inl, inr, arith}
 use Rattle.std.proofs.lemmas.List.{length_push, take_all, take-append-le, length-take-le}
+use Rattle.std.specs.List.{HoldsAt, AllWithin, range_with_len}
+use Rattle.std.proofs.lemmas.List.FromFn.{get_or-range_with_len}
 use Rattle.std.proofs.lemmas.Bool.{cases_lt, and_parts, leb-true, both_ways}
-use Rattle.terms.specs.declared.Operand.{Operand}
 use Rattle.terms.specs.declared.Operand.TheVariants.{Variable}
 use Rattle.terms.specs.Domains.{Domain}
 use Rattle.terms.specs.Lists.{All}
@@ -26,6 +27,14 @@ nth_in (y ∷ ys) (suc k) x e = there (nth_in ys k x e)
 in_nth : {A : Type 0} {x : A} {xs : List A} → x ∈ xs → (k : ℕ) × (k < length xs) × (nth xs k ≡ Some x)
 in_nth here = (0, omega arith, refl)
 in_nth (there m) = let r = in_nth m in (suc r.0, omega (arith, r.1), r.2)
+
+-- the first of a list and one more, of which the first are taken again
+take_pushed : {A : Type 0} (n : ℕ) (all items : List A) (x : A) → items ≡ take n all → take n (items ++ (x ∷ [])) ≡ take n (all ++ (x ∷ []))
+take_pushed n all items x e = go (cases_lt (length all) n)
+  where
+    go : (length all < n) ⊎ (n ≤ length all) → take n (items ++ (x ∷ [])) ≡ take n (all ++ (x ∷ []))
+    go (inl a) = ap (λ z. take n (z ++ (x ∷ []))) (e ∙ take_all n all (omega arith))
+    go (inr a) = take-append-le n items (x ∷ []) (omega (arith, ap length e, length-take-le n all a)) ∙ take_all n items (omega (arith, ap length e, length-take-le n all a)) ∙ e ∙ sym (take-append-le n all (x ∷ []) a)
 
 -- a number above all of a rising list goes at its end
 rising_push : (last x : ℕ) (is : List ℕ) → ((i : ℕ) → i ∈ is → i ≤ last) → last < x → Rising is → Rising (is ++ (x ∷ []))
@@ -64,20 +73,18 @@ module _ {d : Domain} (m : Meaning d) where
   abbrev pub FixedBefore : Option Record → ℕ → Type 0
   FixedBefore r place = (k x : ℕ) → k < place → argument_of r k ≡ Some (Variable x) → Fixed m x
 
-  pub fixed_more : (r : Option Record) (place : ℕ) → FixedBefore r place → ((x : ℕ) → argument_of r place ≡ Some (Variable x) → Fixed m x) → FixedBefore r (place + 1)
-  fixed_more r place f g k x l e = go (cases_lt k place)
-    where
-      go : (k < place) ⊎ (place ≤ k) → Fixed m x
-      go (inl n) = f k x n e
-      go (inr n) = let q : k ≡ place = omega arith in g x (subst (λ j. argument_of r j ≡ Some (Variable x)) q e)
-
-  pub unfixed_here : (r : Option Record) (place : ℕ) (o : Operand) → argument_of r place ≡ Some o → OpenSays m true o → UnfixedSays m true r
-  unfixed_here None place o e w = absurd (let z : ◌≡◌ {A = ℕ} 0 1 = cc in omega arith)
-  unfixed_here (Some r) place o e w = (w.0, nth_in r.arguments place (Variable w.0) (e ∙ ap Some w.1), w.2)
+  pub unfixed_here : (r : Option Record) (place : ℕ) → OpenSays m true (argument_of r place) → UnfixedSays m true r
+  unfixed_here None place w = absurd (let z : ◌≡◌ {A = ℕ} 0 1 = cc (w.1) in omega arith)
+  unfixed_here (Some r) place w = (w.0, nth_in r.arguments place (Variable w.0) w.1, w.2)
 
   pub all_fixed : (i : ℕ) (rs : List Record) → All (λ r. fit i r ≡ true) rs → FixedBefore (first rs) 4 → UnfixedSays m false (first rs)
   all_fixed i [] p f = tt
   all_fixed i (r ∷ rs) p f = λ x n. let k = in_nth n in f k.0 x (omega (arith, k.1, (placed i r p.0).few)) k.2
+
+  -- what was said of each place says it of the whole
+  pub unfixed_any : (i : ℕ) (rs : List Record) → All (λ r. fit i r ≡ true) rs → (b : Bool) → MatchBool b ((k : ℕ) × (k < length (range_with_len 0 4)) × HoldsAt (λ place. OpenSays m true (argument_of (first rs) place)) (range_with_len 0 4) k) (AllWithin (λ place. OpenSays m false (argument_of (first rs) place)) (range_with_len 0 4) 0 (length (range_with_len 0 4))) → UnfixedSays m b (first rs)
+  unfixed_any i rs p true w = unfixed_here (first rs) (get_or (range_with_len 0 4) w.0 0) (w.2 0)
+  unfixed_any i rs p false w = all_fixed i rs p (λ k x l e. w k 0 (omega arith) l x (ap (argument_of (first rs)) (get_or-range_with_len 0 4 k 0 l ∙ omega arith) ∙ e))
 
   -- no record answers, so there is none
   silent : (rs : List Record) → any_answers None None rs ≡ false → UnfixedSays m false (first rs)
@@ -107,19 +114,6 @@ module _ {d : Domain} (m : Meaning d) where
     -- the identifier that comes next among all
     abbrev Next : ℕ → Option ℕ → Type 0
     Next last r = NextOf t None None last r
-
-    abbrev NoneAt : ℕ → Type 0
-    NoneAt i = any_answers None None (t i) ≡ false
-
-    none_at_zero : Fitted t → Says false 0
-    none_at_zero f = go (t 0) (f 0)
-      where
-        go : (rs : List Record) → All (λ r. fit 0 r ≡ true) rs → UnfixedSays m false (first rs)
-        go [] a = tt
-        go (r ∷ rs) a = absurd (omega (arith, (placed 0 r a.0).low))
-
-    wakes_none : Fitted t → WakesTo 0 []
-    wakes_none f = record { rising = tt; upto = λ i n. absurd (mem_none n); unfixed = λ i n. absurd (mem_none n); others = λ i l n. subst (Says false) (let q : 0 ≡ i = omega arith in q) (none_at_zero f) }
 
     before : (last x : ℕ) (is : List ℕ) → WakesTo last is → Next last (Some x) → (i : ℕ) → i < x → (i ∈ is → ⊥) → Says false i
     before last x is w n i l k = go (cases_lt last i)
@@ -157,43 +151,14 @@ module _ {d : Domain} (m : Meaning d) where
         go i l k (inl a) = before last x is w n i a (λ z. k (mem_left (x ∷ []) z))
         go i l k (inr a) = absurd (k (mem_right is (subst (λ z. z ∈ (x ∷ [])) (let q : x ≡ i = omega arith in q) here)))
 
-    pub collect_none : Fitted t → (items : List ℕ) → items ≡ [] → Collecting 0 0 items
-    collect_none f items e = record { all = []; wakes = wakes_none f; count = refl; kept = e; few = omega arith; bound = omega arith }
-
     next_high : Fitted t → (last x : ℕ) → Next last (Some x) → x ≤ 1_000_000
     next_high f last x n = (answering x (t x) (f x) n.1).1
-
-    -- less is left of the identifiers
-    pub next_less : Fitted t → (last x : ℕ) → Next last (Some x) → 1_000_000 - x < 1_000_000 - last
-    next_less f last x n = omega (arith, n.0, next_high f last x n)
 
     pub collect_rest : Fitted t → (last n x : ℕ) (items : List ℕ) → Collecting last n items → Next last (Some x) → Says false x → Collecting x n items
     collect_rest f last n x items w k s = record { all = w.all; wakes = wakes_rest last x w.all w.wakes k s; count = w.count; kept = w.kept; few = omega (arith, w.few, k.0); bound = next_high f last x k }
 
-    -- there is room for one more
-    pub collect_more : Fitted t → (last n x : ℕ) (items : List ℕ) → Collecting last n items → Next last (Some x) → Says true x → length items < 512 → (after : List ℕ) → after ≡ items ++ (x ∷ []) → Collecting x (n + 1) after
-    collect_more f last n x items w k s l after e = record { all = w.all ++ (x ∷ []); wakes = wakes_more last x w.all w.wakes k s; count = omega (arith, w.count, length_push w.all x); kept = e ∙ ap (λ z. z ++ (x ∷ [])) (w.kept ∙ take_all 512 w.all few) ∙ sym (take_all 512 (w.all ++ (x ∷ [])) (omega (arith, length_push w.all x, short))); few = omega (arith, w.few, k.0); bound = next_high f last x k }
-      where
-        short : length w.all < 512
-        short = go (cases_lt (length w.all) 512)
-          where
-            go : (length w.all < 512) ⊎ (512 ≤ length w.all) → length w.all < 512
-            go (inl a) = a
-            go (inr a) = absurd (omega (arith, ap length w.kept, length-take-le 512 w.all a))
-
-        few : length w.all ≤ 512
-        few = omega (arith, short)
-
-    -- there is none
-    pub collect_past : Fitted t → (last n x : ℕ) (items : List ℕ) → Collecting last n items → Next last (Some x) → Says true x → 512 ≤ length items → (after : List ℕ) → after ≡ items → Collecting x (n + 1) after
-    collect_past f last n x items w k s l after e = record { all = w.all ++ (x ∷ []); wakes = wakes_more last x w.all w.wakes k s; count = omega (arith, w.count, length_push w.all x); kept = e ∙ w.kept ∙ sym (take-append-le 512 w.all (x ∷ []) long); few = omega (arith, w.few, k.0); bound = next_high f last x k }
-      where
-        long : 512 ≤ length w.all
-        long = go (cases_lt (length w.all) 512)
-          where
-            go : (length w.all < 512) ⊎ (512 ≤ length w.all) → 512 ≤ length w.all
-            go (inr a) = a
-            go (inl a) = omega (arith, ap length (w.kept ∙ take_all 512 w.all (omega arith)))
+    pub collect_more : Fitted t → (last n x : ℕ) (items after : List ℕ) → Collecting last n items → Next last (Some x) → Says true x → after ≡ take 512 (items ++ (x ∷ [])) → Collecting x (n + 1) after
+    collect_more f last n x items after w k s e = record { all = w.all ++ (x ∷ []); wakes = wakes_more last x w.all w.wakes k s; count = omega (arith, w.count, length_push w.all x); kept = e ∙ take_pushed 512 w.all items x w.kept; few = omega (arith, w.few, k.0); bound = next_high f last x k }
 
     pub collect_all : (last n : ℕ) (items : List ℕ) → Collecting last n items → Next last None → Collected m (λ i. first (t i)) n items
     collect_all last n items w k = record { all = w.all; wakes = record { rising = w.wakes.rising; unfixed = w.wakes.unfixed; others = λ i a. go i a (cases_lt last i) }; count = w.count; kept = w.kept; few = omega (arith, w.few, w.bound) }
@@ -201,11 +166,3 @@ module _ {d : Domain} (m : Meaning d) where
         go : (i : ℕ) → (i ∈ w.all → ⊥) → (last < i) ⊎ (i ≤ last) → Says false i
         go i a (inl l) = silent (t i) (k i l)
         go i a (inr l) = w.wakes.others i l a
-
-    -- no more than 512 are kept
-    pub collected_few : (n : ℕ) (items : List ℕ) → Collected m (λ i. first (t i)) n items → length items ≤ 512
-    collected_few n items w = go (cases_lt (length w.all) 512)
-      where
-        go : (length w.all < 512) ⊎ (512 ≤ length w.all) → length items ≤ 512
-        go (inl a) = omega (arith, ap length (w.kept ∙ take_all 512 w.all (omega arith)))
-        go (inr a) = omega (arith, ap length w.kept, length-take-le 512 w.all a)

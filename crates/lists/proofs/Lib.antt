@@ -1,5 +1,5 @@
+pub mod Members
 pub mod Takes
-pub mod Tops
 pub mod Storable
 pub mod Keeps
 pub mod Collects

@@ -1,18 +1,19 @@
 -- What the entries of a waiting list mean, and which of them a table takes. Assumes nothing.
-use Rattle.std.specs.Prelude.{◌≡◌, ℕ, suc, ◌≤◌, Bool, true, ◌&&◌, List, [], ◌∷◌, length, take, nat_le, nat_lt}
+use Rattle.std.specs.Prelude.{◌≡◌, ℕ, suc, ◌≤◌, Bool, true, ◌&&◌, List, [], ◌∷◌, length, nat_le, nat_lt}
 use Rattle.terms.specs.declared.Operand.{Operand}
 use Rattle.rules.specs.Books.{Goal, tell, add}
 use Rattle.table.specs.Records.{all_fitting, fit, recorded}
 use Rattle.machine.specs.Sheets.{Entry, goal, wake, active}
-use Rattle.lists.specs.declared.arguments.Arguments.{Arguments}
+use Rattle.inplace.specs.declared.InPlace.{InPlace}
+use Rattle.inplace.specs.Items.{items}
 use Rattle.lists.specs.declared.entry.Goal as code_goal
 use Rattle.lists.specs.declared.entry.Goal.TheVariants.{Tell, Add}
 use Rattle.lists.specs.declared.entry.Entry as code_entry
 use Rattle.lists.specs.declared.entry.Entry.TheVariants as entry
 
--- the operands: the first `count` parts
-abbrev pub arguments_list : Arguments → List Operand
-arguments_list a = take a.count a.parts
+-- the operands of a constraint, in their order
+abbrev pub arguments_list : InPlace Operand 4 → List Operand
+arguments_list a = items a
 
 -- the primitive or the constraint that a goal of the code is
 abbrev pub goal_means : code_goal.Goal → Goal Operand

@@ -23,9 +23,9 @@ module _ {Z : Type 0} where
   abbrev pub WaitingKept : VecDeque code_entry.Entry Z → Type 0
   WaitingKept q = (512 ≤ deque_capacity q) × (deque_len q ≤ 512) × (all_storable (entries_of q) ≡ true)
 
-  -- there is room for 512, and no more stand there
-  abbrev pub Roomy : {X : Type 0} → Vec X Z → Type 0
-  Roomy v = (512 ≤ vec_capacity v) × (vec_len v ≤ 512)
+  -- there is room for n, and no more stand there
+  abbrev pub Roomy : {X : Type 0} → ℕ → Vec X Z → Type 0
+  Roomy n v = (n ≤ vec_capacity v) × (vec_len v ≤ n)
 
 -- what names none of those gone, in its order
 abbrev pub unnamed : List ℕ → List Firing → List Firing

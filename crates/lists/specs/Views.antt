@@ -1,20 +1,20 @@
 -- What the plain lists of a sheet hold, and what a change leaves. Assumes nothing.
-use Rattle.std.specs.Prelude.{◌≡◌, ℕ, suc, Bool, false, ◌&&◌, List, [], length, vec_items, nat_lt, slice_index_or}
+use Rattle.std.specs.Prelude.{◌≡◌, ℕ, suc, Bool, false, List, [], vec_items, slice_index_or}
 use Rattle.rules.specs.Books.{Goal}
 use Rattle.terms.specs.declared.Operand.{Operand}
 use Rattle.machine.specs.Matching.{Firing}
 use Rattle.machine.specs.Sheets.{Entry}
 use Rattle.lists.specs.declared.lists.Lists.{Lists}
-use Rattle.lists.specs.Entries.{storable}
-use Rattle.lists.specs.Rooms.{entries_of, firings_of}
+use Rattle.lists.specs.Queues.{queued, can_wait}
+use Rattle.lists.specs.Rooms.{firings_of}
 
 -- what waits, the top first
 abbrev pub waiting_of : Lists → List Entry
-waiting_of l = entries_of l.waiting
+waiting_of l = queued l.waiting
 
 -- what was applied, the oldest first
 abbrev pub history_of : Lists → List Firing
-history_of l = firings_of l.history
+history_of l = firings_of l.history.items
 
 -- whether a variable was posted
 abbrev pub posted_of : Lists → ℕ → Bool
@@ -22,7 +22,7 @@ posted_of l x = slice_index_or l.posted x false
 
 -- the constraints that were found to be woken, at most 512
 abbrev pub woken_of : Lists → List ℕ
-woken_of l = vec_items l.woken
+woken_of l = vec_items l.woken.items
 
 -- the waiting list, the history, the posted variables and the next identifier are those
 pub record Holds (l : Lists) (w : List Entry) (h : List Firing) (p : ℕ → Bool) (n : ℕ) : Type 0 where
@@ -57,4 +57,4 @@ Given a b w = Holds b w (history_of a) (posted_of a) (suc a.next)
 
 -- whether the goal can be put to what waits: fewer than 512 wait, and it is no constraint that a table does not take
 abbrev pub takes_goal : Lists → Goal Operand → Bool
-takes_goal l g = nat_lt (length (waiting_of l)) 512 && storable g
+takes_goal l g = can_wait l.waiting g

@@ -1,5 +1,5 @@
 -- What is found of the constraints to wake. Assumes nothing.
-use Rattle.std.specs.Prelude.{◌≡◌, ℕ, ◌≤◌, Bool, true, false, List, length, take, Option}
+use Rattle.std.specs.Prelude.{◌≡◌, ℕ, ◌≤◌, Bool, true, false, List, length, take, Some, Option}
 use Rattle.terms.specs.declared.Operand.{Operand}
 use Rattle.terms.specs.declared.Operand.TheVariants.{Variable}
 use Rattle.terms.specs.Domains.{Domain}
@@ -7,15 +7,15 @@ use Rattle.theory.specs.declared.interface.Theory as Theory
 use Rattle.theory.specs.Meanings.{Meaning, Fixed}
 use Rattle.table.specs.declared.partner.PartnerTable as PartnerTable
 use Rattle.table.specs.Lists.{first}
-use Rattle.table.specs.Records.{Record}
+use Rattle.table.specs.Records.{Record, argument_of}
 use Rattle.machine.specs.Matching.{Store}
 use Rattle.machine.specs.Refined.{Unfixed, AllFixed, Wakes}
 
 module _ {d : Domain} (m : Meaning d) where
-  -- yes: the operand is a variable that is not fixed; no: if it is a variable, it is fixed
-  abbrev pub OpenSays : Bool → Operand → Type 0
-  OpenSays true o = (x : ℕ) × (o ≡ Variable x) × (Fixed m x → ⊥)
-  OpenSays false o = (x : ℕ) → o ≡ Variable x → Fixed m x
+  -- yes: an argument is there, a variable that is not fixed; no: if a variable is there, it is fixed
+  abbrev pub OpenSays : Bool → Option Operand → Type 0
+  OpenSays true o = (x : ℕ) × (o ≡ Some (Variable x)) × (Fixed m x → ⊥)
+  OpenSays false o = (x : ℕ) → o ≡ Some (Variable x) → Fixed m x
 
   -- yes: the constraint lives and has a variable that is not fixed; no: each variable that it has is fixed
   abbrev pub UnfixedSays : Bool → Option Record → Type 0
@@ -31,6 +31,10 @@ module _ {d : Domain} (m : Meaning d) where
     pub few : n ≤ 1_000_000
 
 module _ {A B : Type 0} (T : Theory.Ghosts A) (P : PartnerTable.Ghosts B) where
+  -- yes and no of the argument at a place of the constraint under an identifier of a table, by what a theory fixes
+  abbrev pub OpenIn : A → B → Bool → ℕ → ℕ → Type 0
+  OpenIn s t r i place = OpenSays (T.means s) r (argument_of (first (P.records t i)) place)
+
   -- yes and no of the constraint under an identifier of a table, by what a theory fixes
   abbrev pub UnfixedIn : A → B → Bool → ℕ → Type 0
   UnfixedIn s t r i = UnfixedSays (T.means s) r (first (P.records t i))

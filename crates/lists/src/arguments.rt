@@ -1,16 +1,8 @@
 //! The arguments of a constraint, held in place.
 
-ghost use Rattle.std.specs.Prelude.{◌≤◌};
-
+use inplace::InPlace;
 use table::row::PLACES;
 use terms::Operand;
 
-mod operands;
-
-/// At most four operands: the first `count` parts.
-#[derive(Clone, Copy)]
-pub struct Arguments {
-    parts: [Operand; PLACES],
-    count: usize,
-    ghost few: { count ≤ 4 },
-}
+/// At most four operands.
+pub type Arguments = InPlace<Operand, PLACES>;

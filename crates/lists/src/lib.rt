@@ -4,3 +4,5 @@
 pub mod arguments;
 pub mod entry;
 pub mod lists;
+mod reserved;
+mod waiting;

@@ -1,15 +1,13 @@
 //! The plain lists of a sheet.
 
-ghost use Rattle.lists.specs.Rooms.{WaitingKept, Roomy, Following};
+ghost use Rattle.lists.specs.Rooms.{Following};
 
-use crate::entry::Entry;
+use crate::reserved::Reserved;
+use crate::waiting::Waiting;
 use machine::tuple::Firing;
-use std::collections::VecDeque;
 
 mod changes;
-mod forgetting;
 mod making;
-mod queue;
 mod reading;
 mod waking;
 
@@ -25,13 +23,10 @@ pub const VARIABLES: usize = 256;
 /// What waits, what was applied, which variables were posted and the next identifier; all memory is there from the start.
 #[derive(Drop)]
 pub struct Lists {
-    waiting: VecDeque<Entry>,
-    history: Vec<Firing>,
+    waiting: Waiting,
+    history: Reserved<Firing, HISTORY>,
     posted: [bool; VARIABLES],
     next: u32,
-    woken: Vec<u32>,
-    ghost waiting_kept: { WaitingKept waiting },
-    ghost history_kept: { Roomy history },
-    ghost woken_kept: { Roomy woken },
+    woken: Reserved<u32, WAITING>,
     ghost next_kept: { Following next },
 }

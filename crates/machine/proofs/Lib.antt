@@ -1,6 +1,5 @@
 pub mod Members
 pub mod Places
-pub mod Takes
 pub mod Orders
 pub mod Meanings
 pub mod Done

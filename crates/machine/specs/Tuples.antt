@@ -1,6 +1,7 @@
 -- What tuples and answers of the code mean. Assumes nothing.
-use Rattle.std.specs.Prelude.{ℕ, List, take}
-use Rattle.machine.specs.declared.tuple.Tuple.{Tuple}
+use Rattle.std.specs.Prelude.{ℕ, List}
+use Rattle.inplace.specs.declared.InPlace.{InPlace}
+use Rattle.inplace.specs.Items.{items}
 use Rattle.machine.specs.declared.tuple.firing.Firing as code
 use Rattle.machine.specs.declared.answers.Step.{Step}
 use Rattle.machine.specs.declared.answers.Step.TheVariants as step
@@ -8,8 +9,8 @@ use Rattle.machine.specs.Matching.{Firing}
 use Rattle.machine.specs.Sheets as sheet
 
 -- the identifiers of a tuple
-abbrev pub ids : Tuple → List ℕ
-ids t = take t.filled t.places
+abbrev pub ids : InPlace ℕ 3 → List ℕ
+ids t = items t
 
 -- a rule with its tuple
 abbrev pub firing_of : code.Firing → Firing

@@ -21,7 +21,7 @@ pub enum Limit {
 }
 
 /// What a step did.
-#[derive(Clone, Copy, Debug)]
+#[derive(Clone, Copy, Debug, PartialEq)]
 pub enum Step {
     /// Nothing: the theory has failed.
     Failed,
@@ -60,7 +60,7 @@ pub enum End {
 #[derive(Clone, Copy, Debug, PartialEq)]
 pub enum VariableRefusal {
     /// As many are made as can be.
-    AtCapacity,
+    AtCapacity = 21,
 }
 
 impl VariableRefusal {
@@ -68,9 +68,7 @@ impl VariableRefusal {
     pub fn number(self) -> u8
         ensures { result ≡ variable_refusal_number self }
     {
-        match self {
-            VariableRefusal::AtCapacity => 21,
-        }
+        self as u8
     }
 }
 
@@ -78,17 +76,17 @@ impl VariableRefusal {
 #[derive(Clone, Copy, Debug, PartialEq)]
 pub enum PostRefusal {
     /// The theory has failed.
-    TheoryFailed,
+    TheoryFailed = 11,
     /// The kind is above 3.
-    NoSuchKind,
+    NoSuchKind = 12,
     /// The symbol is not declared.
-    NoSuchSymbol,
+    NoSuchSymbol = 13,
     /// The number of operands is not what the kind or the symbol takes.
-    WrongCount,
+    WrongCount = 14,
     /// An operand is no value and no posted variable, or no value stands second in least or most.
-    WrongOperand,
+    WrongOperand = 15,
     /// 512 items wait.
-    TooMany,
+    TooMany = 16,
 }
 
 impl PostRefusal {
@@ -96,13 +94,6 @@ impl PostRefusal {
     pub fn number(self) -> u8
         ensures { result ≡ post_refusal_number self }
     {
-        match self {
-            PostRefusal::TheoryFailed => 11,
-            PostRefusal::NoSuchKind => 12,
-            PostRefusal::NoSuchSymbol => 13,
-            PostRefusal::WrongCount => 14,
-            PostRefusal::WrongOperand => 15,
-            PostRefusal::TooMany => 16,
-        }
+        self as u8
     }
 }

@@ -1,9 +1,8 @@
 //! The identifiers that a rule is applied to, one for each head.
 
-ghost use Rattle.std.specs.Prelude.{◌≤◌};
+use inplace::InPlace;
 
 mod firing;
-mod identifiers;
 
 pub use firing::Firing;
 
@@ -11,9 +10,4 @@ pub use firing::Firing;
 pub const HEADS: usize = 3;
 
 /// Identifiers in the order of the heads, at most one for each head.
-#[derive(Clone, Copy, Debug)]
-pub struct Tuple {
-    places: [u32; HEADS],
-    filled: usize,
-    ghost few: { filled ≤ 3 },
-}
+pub type Tuple = InPlace<u32, HEADS>;

@@ -1,12 +1,14 @@
 // Changes of the lists.
 ghost use Rattle.std.specs.Prelude.{◌≡◌, suc, ◌+◌, ◌<◌, ◌≤◌, true, [], ◌∷◌, ◌++◌, map, length, drop, if◌then◌else◌, nat_eq};
 ghost use Rattle.lists.specs.Entries.{goal_means};
+ghost use Rattle.lists.specs.Queues.{told_room};
+ghost use Rattle.lists.specs.Rooms.{unnamed};
 ghost use Rattle.lists.specs.Views.{waiting_of, history_of, posted_of, woken_of, takes_goal, Stays, Waits, Applied, Posted, Given};
 ghost use Rattle.machine.specs.Sheets.{goal as goal_entry, wake as wake_entry, active as active_entry};
 ghost use Rattle.machine.specs.Tuples.{firing_of};
 
 use crate::entry::Goal;
-use crate::lists::{HISTORY, Lists, WAITING, queue};
+use crate::lists::{Lists, WAITING};
 use machine::tuple::Firing;
 use table::rows::GREATEST_IDENTIFIER;
 
@@ -15,14 +17,14 @@ impl Lists {
     pub fn drop_top(&mut self)
         ensures { Waits self.old self.new (drop 1 (waiting_of self.old)) }
     {
-        queue::take_top(&mut self.waiting);
+        self.waiting.take_top();
     }
 
     /// Puts an active constraint in place of the item on top; its occurrences are counted from 0.
     pub fn activate_top(&mut self, identifier: u32, occurrence: usize)
         ensures { Waits self.old self.new (active_entry identifier (suc occurrence) ∷ drop 1 (waiting_of self.old)) }
     {
-        queue::activate(&mut self.waiting, identifier, occurrence);
+        self.waiting.activate(identifier, occurrence);
     }
 
     /// Gives the next identifier and puts it, active at its first occurrence, in place of the item on top; nothing where no identifier is left.
@@ -31,33 +33,25 @@ impl Lists {
         ensures spent { 1_000_000 < self.old.next → Stays self.old self.new }
     {
         if self.next <= GREATEST_IDENTIFIER {
-            queue::activate(&mut self.waiting, self.next, 0);
+            self.waiting.activate(self.next, 0);
             self.next += 1;
         }
     }
 
-    /// Puts a goal at the bottom, if it can wait, and says whether it could.
-    pub fn post(&mut self, goal: Goal) -> bool
-        ensures value { result ≡ takes_goal self.old (goal_means goal) }
-        ensures after { Waits self.old self.new (if result then waiting_of self.old ++ goal_entry (goal_means goal) ∷ [] else waiting_of self.old) }
+    /// Puts a goal at the bottom, or gives it back where it cannot wait.
+    pub fn post(&mut self, goal: Goal) -> Result<(), Goal>
+        ensures value { result ≡ told_room (takes_goal self.old (goal_means goal)) goal }
+        ensures after { Waits self.old self.new (if takes_goal self.old (goal_means goal) then waiting_of self.old ++ goal_entry (goal_means goal) ∷ [] else waiting_of self.old) }
     {
-        let taken = self.takes(goal);
-        if taken {
-            queue::add_bottom(&mut self.waiting, goal);
-        }
-        taken
+        self.waiting.post(goal)
     }
 
-    /// Puts a goal on top, if it can wait, and says whether it could.
-    pub fn push(&mut self, goal: Goal) -> bool
-        ensures value { result ≡ takes_goal self.old (goal_means goal) }
-        ensures after { Waits self.old self.new (if result then goal_entry (goal_means goal) ∷ waiting_of self.old else waiting_of self.old) }
+    /// Puts a goal on top, or gives it back where it cannot wait.
+    pub fn push(&mut self, goal: Goal) -> Result<(), Goal>
+        ensures value { result ≡ told_room (takes_goal self.old (goal_means goal)) goal }
+        ensures after { Waits self.old self.new (if takes_goal self.old (goal_means goal) then goal_entry (goal_means goal) ∷ waiting_of self.old else waiting_of self.old) }
     {
-        let taken = self.takes(goal);
-        if taken {
-            queue::add_top(&mut self.waiting, goal);
-        }
-        taken
+        self.waiting.push(goal)
     }
 
     /// Puts the woken in place of the item on top, the first uppermost; nothing where more than 512 would wait.
@@ -65,9 +59,9 @@ impl Lists {
         ensures room { length (drop 1 (waiting_of self.old)) + length (woken_of self.old) ≤ 512 → Waits self.old self.new (map wake_entry (woken_of self.old) ++ drop 1 (waiting_of self.old)) }
         ensures crowded { 512 < length (drop 1 (waiting_of self.old)) + length (woken_of self.old) → Stays self.old self.new }
     {
-        if self.waiting.len().saturating_sub(1) + self.woken.len() <= WAITING {
-            queue::take_top(&mut self.waiting);
-            queue::push_woken(&mut self.waiting, self.woken.as_slice());
+        if self.waiting.len().saturating_sub(1) + self.woken.as_slice().len() <= WAITING {
+            self.waiting.take_top();
+            self.waiting.push_woken(self.woken.as_slice());
         }
     }
 
@@ -76,9 +70,7 @@ impl Lists {
         ensures room { length (history_of self.old) < 512 → Applied self.old self.new (history_of self.old ++ firing_of firing ∷ []) }
         ensures crowded { 512 ≤ length (history_of self.old) → Stays self.old self.new }
     {
-        if self.history.len() < HISTORY {
-            self.history.push_reserved(firing);
-        }
+        self.history.push(firing);
     }
 
     /// Marks the variable as posted.
@@ -86,5 +78,12 @@ impl Lists {
         ensures { Posted self.old self.new (λ y. (if nat_eq y x then true else posted_of self.old y)) }
     {
         self.posted[x as usize] = true;
+    }
+
+    /// Takes out of the history what names one of those gone.
+    pub fn forget(&mut self, gone: &[u32])
+        ensures { Applied self.old self.new (unnamed gone.now (history_of self.old)) }
+    {
+        self.history.forget(gone);
     }
 }

@@ -2,9 +2,10 @@
 ghost use Rattle.std.specs.Prelude.{◌≡◌, ℕ, false, IfOk, slice_index_or};
 ghost use Rattle.lists.specs.Views.{Empty};
 
-use crate::lists::{HISTORY, Lists, VARIABLES, WAITING};
+use crate::lists::{Lists, VARIABLES};
+use crate::reserved::Reserved;
+use crate::waiting::Waiting;
 use std::alloc::{AllocError, Global};
-use std::collections::VecDeque;
 
 /// No variable was posted.
 fn none_posted() -> [bool; VARIABLES]
@@ -18,9 +19,9 @@ impl Lists {
     pub fn new(heap: Global) -> Result<Lists, AllocError>
         ensures { IfOk result Empty }
     {
-        let waiting = VecDeque::with_capacity(heap, WAITING)?;
-        let history = Vec::with_capacity(heap, HISTORY)?;
-        let woken = Vec::with_capacity(heap, WAITING)?;
+        let waiting = Waiting::new(heap)?;
+        let history = Reserved::new(heap)?;
+        let woken = Reserved::new(heap)?;
         Ok(Lists {
             waiting,
             history,

@@ -1,14 +1,14 @@
 // What the lists hold.
 ghost use Rattle.std.specs.Prelude.{◌≡◌, ◌≤◌, map, length, IfSome};
-ghost use Rattle.lists.specs.Entries.{entry_means, goal_means, Puttable};
+ghost use Rattle.lists.specs.Entries.{entry_means, Puttable};
 ghost use Rattle.lists.specs.Rooms.{Following};
-ghost use Rattle.lists.specs.Views.{waiting_of, history_of, posted_of, takes_goal};
+ghost use Rattle.lists.specs.Views.{waiting_of, history_of, posted_of};
 ghost use Rattle.machine.specs.Tuples.{firing_of};
 ghost use Rattle.std.specs.Option.{option_map};
 ghost use Rattle.table.specs.Lists.{first};
 
-use crate::entry::{Entry, Goal};
-use crate::lists::{Lists, WAITING};
+use crate::entry::Entry;
+use crate::lists::Lists;
 use machine::tuple::Firing;
 
 impl Lists {
@@ -17,10 +17,7 @@ impl Lists {
         ensures value { option_map entry_means result ≡ first (waiting_of self.now) }
         ensures fit { IfSome result (λ e. Puttable (entry_means e)) }
     {
-        match self.waiting.front() {
-            Some(entry) => Some(*entry),
-            None => None,
-        }
+        self.waiting.top()
     }
 
     /// How many items wait.
@@ -43,7 +40,7 @@ impl Lists {
         ensures value { result ≡ length (history_of self.now) }
         ensures few { result ≤ 512 }
     {
-        self.history.len()
+        self.history().len()
     }
 
     /// The identifier that is given next, 1,000,001 where none is left.
@@ -59,12 +56,5 @@ impl Lists {
         ensures { result ≡ posted_of self.now x }
     {
         self.posted[x as usize]
-    }
-
-    /// Whether the goal can wait: fewer than 512 items wait, and it is a primitive or a constraint that a table takes.
-    pub(super) fn takes(&self, goal: Goal) -> bool
-        ensures { result ≡ takes_goal self.now (goal_means goal) }
-    {
-        self.waiting_len() < WAITING && goal.is_storable()
     }
 }

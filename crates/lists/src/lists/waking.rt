@@ -1,21 +1,21 @@
 // Finding the constraints that a telling wakes.
-ghost use Rattle.lists.specs.Rooms.{Roomy};
 ghost use Rattle.lists.specs.Views.{woken_of, Stays};
-ghost use Rattle.lists.specs.Wakings.{OpenSays, UnfixedIn, Found};
+ghost use Rattle.lists.specs.Wakings.{OpenIn, UnfixedIn, Found};
 
 use crate::lists::{Lists, WAITING};
+use crate::reserved::Reserved;
 use table::partner::PartnerTable;
 use table::row::PLACES;
 use terms::Operand;
 use theory::interface::Theory;
 
-/// Whether the operand is a variable that is not fixed.
-fn is_open<T: Theory>(theory: &T, operand: Operand) -> bool
-    ensures { OpenSays (T.Theory.means theory.now) result operand }
+/// Whether the constraint has a variable at that place, counted from 0, that is not fixed.
+fn is_open<T: Theory, P: PartnerTable>(theory: &T, table: &P, identifier: u32, place: usize) -> bool
+    ensures { OpenIn T.Theory P.PartnerTable theory.now table.now result identifier place }
 {
-    match operand {
-        Operand::Value(_) => false,
-        Operand::Variable(x) => !theory.fixed(x),
+    match table.argument(identifier, place) {
+        Some(Operand::Variable(x)) => !theory.fixed(x),
+        _ => false,
     }
 }
 
@@ -23,30 +23,23 @@ fn is_open<T: Theory>(theory: &T, operand: Operand) -> bool
 fn is_unfixed<T: Theory, P: PartnerTable>(theory: &T, table: &P, identifier: u32) -> bool
     ensures { UnfixedIn T.Theory P.PartnerTable theory.now table.now result identifier }
 {
-    for place in 0..PLACES {
-        if let Some(operand) = table.argument(identifier, place) {
-            if is_open(theory, operand) {
-                return true;
-            }
-        }
-    }
-    false
+    (0..PLACES).any(|place| is_open(theory, table, identifier, place))
 }
 
 /// Counts the constraints to wake, and writes the first 512 of them down, smallest identifier first.
-fn collect<T: Theory, P: PartnerTable>(theory: &T, table: &P, woken: &mut Vec<u32>) -> usize
-    requires { Roomy woken.old }
-    ensures found { Found T.Theory P.PartnerTable theory.now table.now result woken.new.items }
-    ensures kept { Roomy woken.new }
+fn collect<T: Theory, P: PartnerTable>(
+    theory: &T,
+    table: &P,
+    woken: &mut Reserved<u32, WAITING>,
+) -> usize
+    ensures { Found T.Theory P.PartnerTable theory.now table.now result woken.new.items.items }
 {
     woken.clear();
     let mut count = 0;
     let mut last = 0;
     while let Some(identifier) = table.next(None, None, last) {
         if is_unfixed(theory, table, identifier) {
-            if woken.len() < WAITING {
-                woken.push_reserved(identifier);
-            }
+            woken.push(identifier);
             count += 1;
         }
         last = identifier;

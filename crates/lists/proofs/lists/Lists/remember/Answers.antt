@@ -1,22 +1,20 @@
-use Rattle.std.proofs.Common.{vec_items, refl, arith}
-use Rattle.std.proofs.lemmas.List.{length-map}
+use Rattle.std.proofs.Common.{vec_items, map, refl, ap, ◌∙◌, arith}
 use Rattle.machine.specs.Tuples.{firing_of}
-use Rattle.lists.proofs.Tops.{map_push}
+use Rattle.lists.proofs.Takes.{pushed, not_pushed}
 use Rattle.lists.proofs.lists.Lists.remember.Goals as goal
 
-pub returns-then-len-lt-HISTORY : goal.returns-then-len-lt-HISTORY
-returns-then-len-lt-HISTORY c = record {
-  room = λ _. record {
-    waiting = refl;
-    history = map_push firing_of (vec_items c.args.self.now.history) (vec_items c.push_reserved.new.self) c.args.firing c.push_reserved.ensures.items;
-    posted = refl;
-    next = refl;
-  };
-  crowded = λ h. absurd (omega (arith, h, length-map (vec_items c.args.self.now.history) firing_of));
+pub returns-clause-room : goal.returns-clause-room
+returns-clause-room c h = record {
+  waiting = refl;
+  history = ap (map firing_of) c.push.ensures ∙ pushed firing_of 512 (vec_items c.args.self.now.history.items) c.args.firing h;
+  posted = refl;
+  next = refl;
 }
 
-pub returns-else-len-lt-HISTORY : goal.returns-else-len-lt-HISTORY
-returns-else-len-lt-HISTORY c = record {
-  room = λ h. absurd (omega (arith, h, length-map (vec_items c.args.self.now.history) firing_of));
-  crowded = λ _. record { waiting = refl; history = refl; posted = refl; next = refl };
+pub returns-clause-crowded : goal.returns-clause-crowded
+returns-clause-crowded c h = record {
+  waiting = refl;
+  history = ap (map firing_of) c.push.ensures ∙ not_pushed firing_of 512 (vec_items c.args.self.now.history.items) c.args.firing h (omega arith);
+  posted = refl;
+  next = refl;
 }

@@ -1,23 +1,12 @@
-use Rattle.std.proofs.Common.{sym, ◌∙◌, not-suc-le-zero, arith}
-use Rattle.terms.specs.declared.Operand.TheVariants.{Variable}
-use Rattle.table.specs.Lists.{first}
-use Rattle.lists.proofs.Collects.{fixed_more, unfixed_here, all_fixed, some_inj}
+use Rattle.std.proofs.Common.{true, false, refl, rules}
+use Rattle.std.proofs.lemmas.Iterator.{cases_from_any, YieldsList-from_range}
+use Rattle.lists.specs.Wakings.{OpenIn}
+use Rattle.lists.proofs.Collects.{unfixed_any}
 use Rattle.lists.proofs.lists.waking.is_unfixed.Goals as goal
-use Rattle.lists.proofs.lists.waking.is_unfixed.Goals.{in-Some+else-is_open, in_default}
-
-pub loop-place-init : goal.loop-place-init
-loop-place-init g c k x l e = absurd (not-suc-le-zero l)
-
-pub returns-then-is_open : goal.returns-then-is_open
-returns-then-is_open g c = unfixed_here (g.T.Theory.means c.args.theory.now) (first (g.P.PartnerTable.records c.args.table.now c.args.identifier)) c.loop-place.place c.in-Some.operand (sym c.argument.ensures ∙ c.in-Some.is) c.if-is_open.ensures
-
-pub loop-place-preserved : goal.loop-place-preserved
-loop-place-preserved g c =
-    fixed_more (g.T.Theory.means c.args.theory.now) (first (g.P.PartnerTable.records c.args.table.now c.args.identifier)) c.loop-place.place c.loop-place.invariant
-    (elim c.match-argument.branch [
-      | in-Some+else-is_open w ↦ (λ x e. w.if-is_open.ensures x (some_inj (sym w.in-Some.is ∙ c.argument.ensures ∙ e)))
-      | in_default w ↦ (λ x e. absurd (w.in_default.not-Some (Variable x) (c.argument.ensures ∙ e)))
-    ])
 
 pub returns : goal.returns
-returns g c = all_fixed (g.T.Theory.means c.args.theory.now) c.args.identifier (g.P.PartnerTable.records c.args.table.now c.args.identifier) (g.met.P.PartnerTable.fits c.args.table.now c.args.identifier) (λ k x l. c.loop-place.invariant k x (omega arith))
+returns g c =
+    let said = OpenIn g.T.Theory g.P.PartnerTable c.args.theory.now c.args.table.now in
+    let i = c.args.identifier in
+    unfixed_any (g.T.Theory.means c.args.theory.now) i (g.P.PartnerTable.records c.args.table.now i) (g.met.P.PartnerTable.fits c.args.table.now i) _
+    (cases_from_any _ _ _ (λ place. said true i place) (λ place. said false i place) c.any.ensures.ran (YieldsList-from_range 0 4 4 refl refl) (λ x q k. search rules) (λ x q k. search rules))
