@@ -1,4 +1,3 @@
-pub mod Members
 pub mod Takes
 pub mod Storable
 pub mod Keeps

@@ -1,6 +1,9 @@
 -- Membership in lists, and what filters and tests keep. Assumes nothing.
-use Rattle.std.proofs.Common.{◌≡◌, ℕ, zero, suc, ◌<◌, ◌≤◌, Bool, true, false, cond, eqb, ◌⊎◌, List, [], ◌∷◌, ◌++◌, map, length, get_or, drop, filter, sym, refl, ap, ◌∙◌, subst, inl, inr, not-suc-le-zero, arith}
+use Rattle.std.proofs.Common.{◌≡◌, ℕ, zero, suc, ◌<◌, ◌≤◌, Bool, true, false, ◌||◌, cond, eqb, ◌⊎◌, List, [], ◌∷◌, ◌++◌, map, length, get_or, drop, filter, sym, refl, ap, ap₂, ◌∙◌, subst, inl, inr, not-suc-le-zero, arith}
 use mathlib.Core.HLevel.{Discrete}
+use Rattle.std.specs.List.{list_any}
+use Rattle.std.proofs.lemmas.Cmp.{nat_eq_equiv}
+use Rattle.terms.specs.Answers.{Answers}
 use Rattle.std.proofs.lemmas.Bool.{eqb-true, eq-eqb, both_ways}
 use Rattle.machine.specs.Lists.{◌∈◌, here, there}
 use Rattle.terms.specs.Lists.{All}
@@ -163,3 +166,21 @@ names_none gone (j ∷ js) e {i} m g = step (λ q n. names_none gone js q n g) (
 pub names_none_of : (gone is : List ℕ) → ((i : ℕ) → i ∈ is → i ∈ gone → ⊥) → names_any gone is ≡ false
 names_none_of gone [] f = refl
 names_none_of gone (i ∷ is) f = subst (λ c. cond c true (names_any gone is) ≡ false) (sym (memberb_not i gone (f i here))) (names_none_of gone is (λ j m. f j (there m)))
+
+or_cond : (b c : Bool) → (b || c) ≡ cond b true c
+or_cond true c = refl
+or_cond false c = refl
+
+-- the number is one of those, as a slice tests it
+pub contains_memberb : (x : ℕ) (ys : List ℕ) → list_any (λ y. eqb y x) ys ≡ memberb x ys
+contains_memberb x [] = refl
+contains_memberb x (y ∷ ys) = ap₂ ◌||◌ (nat_eq_equiv.symm y x) (contains_memberb x ys) ∙ or_cond (eqb x y) (memberb x ys)
+
+pub answers_member : (b : Bool) (x : ℕ) (ys : List ℕ) → b ≡ list_any (λ y. eqb y x) ys → Answers b (x ∈ ys)
+answers_member true x ys e = memberb_in x ys (sym (e ∙ contains_memberb x ys))
+answers_member false x ys e = λ m. both_ways false refl (e ∙ contains_memberb x ys ∙ memberb_of m)
+
+-- one of the numbers is one of those gone
+pub any_names : (gone is : List ℕ) → list_any (λ i. memberb i gone) is ≡ names_any gone is
+any_names gone [] = refl
+any_names gone (i ∷ is) = ap (λ b. memberb i gone || b) (any_names gone is) ∙ or_cond (memberb i gone) (names_any gone is)

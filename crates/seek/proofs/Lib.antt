@@ -1,3 +1,4 @@
+pub mod Recorded
 pub mod Occurring
 pub mod Located
 pub mod Keying

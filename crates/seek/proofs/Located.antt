@@ -1,7 +1,8 @@
 -- Which head a slot belongs to. Assumes nothing.
-use Rattle.std.proofs.Common.{◌≡◌, ℕ, zero, suc, ◌+◌, ◌-◌, ◌<◌, ◌≤◌, Bool, true, false, cond, ltb, List, [], ◌∷◌, length, get_or, drop, pos, Some, None, Option, unwrap_or, sym, refl, ap, ◌∙◌, not-suc-le-zero, arith}
+use Rattle.std.proofs.Common.{◌≡◌, ℕ, zero, suc, ◌+◌, ◌-◌, ◌<◌, ◌≤◌, Bool, true, false, cond, ltb, List, [], ◌∷◌, length, get_or, drop, pos, Some, None, Option, unwrap_or, sym, refl, ap, ◌∙◌, arith}
 use Rattle.std.proofs.lemmas.List.{drop_more, drop_all}
 use Rattle.std.proofs.lemmas.Bool.{lt-ltb, le-ltb}
+use Rattle.std.specs.Option.{UnwrapsOrElse}
 use Rattle.terms.specs.declared.Operand.{Operand}
 use Rattle.terms.specs.declared.Operand.TheVariants.{Value}
 use Rattle.table.specs.Lists.{nth}
@@ -10,20 +11,15 @@ use Rattle.machine.specs.Matching.{Store, head_slot, arguments_of}
 use Rattle.machine.specs.Keys.{Filling, filled_argument, partial_slot}
 use Rattle.seek.specs.Slots.{later, located}
 
-pub nth_is : {A : Type 0} (xs : List A) (k : ℕ) (d : A) → k < length xs → Some (get_or xs k d) ≡ nth xs k
-nth_is [] k d l = absurd (not-suc-le-zero l)
-nth_is (x ∷ xs) zero d l = refl
-nth_is (x ∷ xs) (suc k) d l = nth_is xs k d (omega arith)
-
-pub nth_past : {A : Type 0} (xs : List A) (k : ℕ) → length xs ≤ k → None ≡ nth xs k
-nth_past [] k l = refl
-nth_past (x ∷ xs) zero l = absurd (not-suc-le-zero l)
-nth_past (x ∷ xs) (suc k) l = nth_past xs k (omega arith)
-
 or_default : {A : Type 0} (xs : List A) (n : ℕ) (d : A) → unwrap_or (nth xs n) d ≡ get_or xs n d
 or_default [] n d = refl
 or_default (x ∷ xs) zero d = refl
 or_default (x ∷ xs) (suc n) d = or_default xs n d
+
+-- the value, or else the default
+pub unwraps_or : {A : Type 0} (d : A) (o : Option A) (r : A) → UnwrapsOrElse o (λ x. x ≡ d) r → r ≡ unwrap_or o d
+unwraps_or d None r e = e
+unwraps_or d (Some x) r e = e
 
 -- so many heads later
 abbrev pub shifted : ℕ → Option (ℕ × ℕ) → Option (ℕ × ℕ)
@@ -78,14 +74,7 @@ module _ (arities : List ℕ) (store : Store) where
       go true ih = argument_or (store i) k
       go false ih = there_later i is (located arities cs (k - get_or arities c 0)) ∙ ih
 
-  -- from what the code reads: the place, the constraint there, and its argument
-  pub slot_read : (hs is : List ℕ) (k : ℕ) (counts : List ℕ) → counts ≡ arities → (o : Option (ℕ × ℕ)) → o ≡ located counts hs k → (p : ℕ × ℕ) → o ≡ Some p → (i : Option ℕ) → i ≡ nth is p.0 → (x : Option Operand) → x ≡ filled_argument store i p.1 → (y : Operand) → y ≡ unwrap_or x (Value (pos 0)) → y ≡ head_slot arities store hs is k
-  slot_read hs is k counts c o e p q i n x m y w = w ∙ ap (λ z. unwrap_or z (Value (pos 0))) (m ∙ ap (λ z. filled_argument store z p.1) n) ∙ ap (there is) (sym q ∙ e ∙ ap (λ z. located z hs k) c) ∙ slot_there hs is k
-
-  pub slot_unread : (hs is : List ℕ) (k : ℕ) (counts : List ℕ) → counts ≡ arities → (o : Option (ℕ × ℕ)) → o ≡ located counts hs k → o ≡ None → Value (pos 0) ≡ head_slot arities store hs is k
-  slot_unread hs is k counts c o e q = ap (there is) (sym q ∙ e ∙ ap (λ z. located z hs k) c) ∙ slot_there hs is k
-
-  -- the same of heads that are filled in part
+  -- what stands at a place of heads that are filled in part
   abbrev pub there_partly : Filling → Option (ℕ × ℕ) → Option Operand
   there_partly f None = None
   there_partly f (Some o) = filled_argument store (f o.0) o.1
@@ -107,3 +96,11 @@ module _ (arities : List ℕ) (store : Store) where
 
   pub partial_unread : (hs : List ℕ) (f : Filling) (k : ℕ) (counts : List ℕ) → counts ≡ arities → (o : Option (ℕ × ℕ)) → o ≡ located counts hs k → o ≡ None → None ≡ partial_slot arities store hs f k
   partial_unread hs f k counts c o e q = ap (there_partly f) (sym q ∙ e ∙ ap (λ z. located z hs k) c) ∙ partial_there hs f k
+
+  -- a slot that no constraint fills has 0
+  pub slot_or : (hs is : List ℕ) (k : ℕ) → unwrap_or (partial_slot arities store hs (λ p. nth is p) k) (Value (pos 0)) ≡ head_slot arities store hs is k
+  slot_or hs is k = ap (λ z. unwrap_or z (Value (pos 0))) (sym (partial_there hs (λ p. nth is p) k)) ∙ here (located arities hs k) ∙ slot_there hs is k
+    where
+      here : (o : Option (ℕ × ℕ)) → unwrap_or (there_partly (λ p. nth is p) o) (Value (pos 0)) ≡ there is o
+      here None = refl
+      here (Some o) = refl

@@ -1,6 +1,6 @@
 -- Counting the places of a symbol. Assumes nothing.
-use Rattle.std.proofs.Common.{◌≡◌, ℕ, zero, suc, ◌+◌, ◌-◌, ◌<◌, Bool, true, false, cond, eqb, List, [], ◌∷◌, ◌++◌, map, length, get_or, take, drop, Some, vec_items, sym, ap, ◌∙◌, subst, not-suc-le-zero, add-zero, add-one, arith}
-use Rattle.std.proofs.lemmas.List.{take-append-drop, append-nil, append_assoc, take_more, length-take-le, drop_more, get_or-map}
+use Rattle.std.proofs.Common.{◌≡◌, ℕ, zero, suc, ◌+◌, ◌-◌, ◌<◌, Bool, true, false, cond, eqb, List, [], ◌∷◌, ◌++◌, map, length, get_or, drop, Some, vec_items, sym, ap, ◌∙◌, subst, not-suc-le-zero, add-zero, add-one, arith}
+use Rattle.std.proofs.lemmas.List.{take-append-drop, append-nil, append_assoc, drop_more, get_or-map}
 use Rattle.std.proofs.lemmas.Bool.{eq-eqb, ne_eqb}
 use Rattle.table.specs.Lists.{nth}
 use Rattle.rules.specs.Books.{Rule, Book, heads}
@@ -16,25 +16,29 @@ places_push : (k s : ℕ) (xs : List ℕ) (x h : ℕ) → places_from k s (xs ++
 places_push k s [] x h = ap (λ (n : ℕ). cond (eqb x s) ((k, n) ∷ []) []) (sym (add-zero h)) ∙ sym (append-nil (cond (eqb x s) ((k, h + 0) ∷ []) []))
 places_push k s (y ∷ xs) x h = ap (λ z. z ++ cond (eqb y s) ((k, h) ∷ []) []) (places_push k s xs x (suc h) ∙ ap (λ (n : ℕ). cond (eqb x s) ((k, n) ∷ []) [] ++ places_from k s xs (suc h)) (let q : suc h + length xs ≡ h + suc (length xs) = omega arith in q)) ∙ append_assoc (cond (eqb x s) ((k, h + suc (length xs)) ∷ []) []) (places_from k s xs (suc h)) (cond (eqb y s) ((k, h) ∷ []) [])
 
-module _ (k s : ℕ) (hs : List ℕ) (p : ℕ) (l : p < length hs) (rest : List (ℕ × ℕ)) where
-  abbrev At : ℕ → List (ℕ × ℕ)
-  At n = places_from k s (take n hs) 0 ++ rest
+-- the last head's place, among those of the heads before it and what follows
+module _ (k s : ℕ) (xs : List ℕ) (x : ℕ) (rest : List (ℕ × ℕ)) where
+  abbrev Before : List (ℕ × ℕ)
+  Before = places_from k s xs 0 ++ rest
 
-  split : (b : Bool) → eqb (get_or hs p 0) s ≡ b → At (p + 1) ≡ (cond b ((k, p) ∷ []) [] ++ places_from k s (take p hs) 0) ++ rest
-  split b e = ap (λ z. places_from k s z 0 ++ rest) (take_more hs p 0 l) ∙ ap (λ z. z ++ rest) (places_push k s (take p hs) (get_or hs p 0) 0) ∙ ap (λ (n : ℕ). (cond (eqb (get_or hs p 0) s) ((k, n) ∷ []) [] ++ places_from k s (take p hs) 0) ++ rest) (let q : 0 + length (take p hs) ≡ p = omega (arith, length-take-le p hs (omega arith)) in q) ∙ ap (λ b. (cond b ((k, p) ∷ []) [] ++ places_from k s (take p hs) 0) ++ rest) e
+  abbrev All : List (ℕ × ℕ)
+  All = places_from k s (xs ++ (x ∷ [])) 0 ++ rest
 
-  pub place_here : get_or hs p 0 ≡ s → nth (At (p + 1)) 0 ≡ Some (k, p)
-  place_here e = ap (λ z. nth z 0) (split true (eq-eqb (get_or hs p 0) s e))
+  split : (b : Bool) → eqb x s ≡ b → All ≡ (cond b ((k, length xs) ∷ []) [] ++ places_from k s xs 0) ++ rest
+  split b e = ap (λ z. z ++ rest) (places_push k s xs x 0) ∙ ap (λ (n : ℕ). (cond (eqb x s) ((k, n) ∷ []) [] ++ places_from k s xs 0) ++ rest) (let q : 0 + length xs ≡ length xs = omega arith in q) ∙ ap (λ b. (cond b ((k, length xs) ∷ []) [] ++ places_from k s xs 0) ++ rest) e
 
-  pub place_passed : (left : ℕ) → get_or hs p 0 ≡ s → 0 < left → nth (At (p + 1)) left ≡ nth (At p) (left - 1)
-  place_passed left e m = ap (λ z. nth z left) (split true (eq-eqb (get_or hs p 0) s e)) ∙ go left m
+  pub place_here : x ≡ s → nth All 0 ≡ Some (k, length xs)
+  place_here e = ap (λ z. nth z 0) (split true (eq-eqb x s e))
+
+  pub place_passed : (left : ℕ) → x ≡ s → 0 < left → nth All left ≡ nth Before (left - 1)
+  place_passed left e m = ap (λ z. nth z left) (split true (eq-eqb x s e)) ∙ go left m
     where
-      go : (n : ℕ) → 0 < n → nth ((k, p) ∷ At p) n ≡ nth (At p) (n - 1)
+      go : (n : ℕ) → 0 < n → nth ((k, length xs) ∷ Before) n ≡ nth Before (n - 1)
       go zero m = absurd (not-suc-le-zero m)
-      go (suc n) m = ap (nth (At p)) (let q : n ≡ suc n - 1 = omega arith in q)
+      go (suc n) m = ap (nth Before) (let q : n ≡ suc n - 1 = omega arith in q)
 
-  pub place_other : (left : ℕ) → (get_or hs p 0 ≡ s → ⊥) → nth (At (p + 1)) left ≡ nth (At p) left
-  place_other left e = ap (λ z. nth z left) (split false (ne_eqb (get_or hs p 0) s e))
+  pub place_other : (left : ℕ) → (x ≡ s → ⊥) → nth All left ≡ nth Before left
+  place_other left e = ap (λ z. nth z left) (split false (ne_eqb x s e))
 
 module _ {A : Type 0} (f : A → Rule) (xs : List A) (i : ℕ) (x : A) (l : i < length xs) (e : x ≡ get_or xs i x) where
   pub occurs_next : (s : ℕ) (hs : List ℕ) → hs ≡ heads (f x) → occurrences_from s (suc i) (map f (drop i xs)) ≡ places_from (suc i) s hs 0 ++ occurrences_from s (suc (i + 1)) (map f (drop (i + 1) xs))
@@ -45,10 +49,6 @@ module _ {A : Type 0} (f : A → Rule) (xs : List A) (i : ℕ) (x : A) (l : i < 
     where
       at_place : get_or (map f xs) i no_rule ≡ f x
       at_place = get_or-map f xs i x no_rule l ∙ ap f (sym e)
-
-  -- the rule of a number
-  pub at_number : (n : ℕ) (rs : List Rule) → map f xs ≡ rs → n - 1 ≡ i → f x ≡ get_or rs (n - 1) no_rule
-  at_number n rs q z = ap f e ∙ sym (get_or-map f xs i x no_rule l) ∙ ap (λ (j : ℕ). get_or (map f xs) j no_rule) (sym z) ∙ ap (λ w. get_or w (n - 1) no_rule) q
 
   -- a rule of a valid book is valid
   pub valid_at : (b : Book) → map f xs ≡ b.rules → Valid b → RuleValid b.arities (f x)

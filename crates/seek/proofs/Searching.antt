@@ -1,5 +1,6 @@
 -- The search for partners: what each turn of it shows. Assumes nothing.
 use Rattle.std.proofs.Common.{◌≡◌, ℕ, zero, suc, ◌+◌, ◌<◌, ◌≤◌, Bool, true, false, cond, eqb, ◌⊎◌, List, [], ◌∷◌, ◌++◌, length, get_or, ℤ, is_some, Some, None, Option, sym, refl, ap, ◌∙◌, subst, inl, inr, zero-le, not-suc-le-zero, arith}
+use Rattle.std.specs.Bool.{then_some}
 use Rattle.std.specs.Option.{option_map, option_or}
 use Rattle.std.proofs.lemmas.List.{append-nil, length-append, get_or_at, get_or_append_left, take_all}
 use Rattle.std.proofs.lemmas.Bool.{cases_order, cases_lt, cases_eq, true≢false, false≢true, both_ways, eqb-true}
@@ -130,15 +131,20 @@ module _ {A B : Type 0} (T : Theory.Ghosts A) (P : PartnerTable.Ghosts B) (s : C
     count = ap length same_heads
 
     -- where all heads are filled
-    pub filled_none : length (heads r) ≤ length pre → (Ready T P s k r pre → ⊥) → Finds pre None
+    filled_none : length (heads r) ≤ length pre → (Ready T P s k r pre → ⊥) → Finds pre None
     filled_none l n [] f = n (subst (λ z. Ready T P s k z pre) (sym b.rule) (let g = subst F (append-nil pre) f in record { new = g.new; guarded = g.applies.guarded }))
     filled_none l n (y ∷ ys) f = over (length ys) l (long (pre ++ (y ∷ ys)) f) (length-append pre (y ∷ ys)) count
 
-    pub filled_some : length (heads r) ≤ length pre → Ready T P s k r pre → Finds pre (Some pre)
+    filled_some : length (heads r) ≤ length pre → Ready T P s k r pre → Finds pre (Some pre)
     filled_some l d = record { rest = []; begins = sym (append-nil pre); fits = fits (subst (λ z. Ready T P s k z pre) b.rule d); least = λ ys g. no_later_front pre ys }
       where
         fits : Ready T P s k (rule_of s k) pre → F pre
         fits q = record { applies = record { matches = subst (λ z. Matches (living P s) z pre) (take_all (length pre) HS (all_within l count)) b.matches; distinct = b.distinct; guarded = q.guarded }; at = b.at (within_all l count b.place.within); new = q.new }
+
+    -- a tuple that fills all heads is found if the rule is ready for it
+    pub filled : length (heads r) ≤ length pre → {X : Type 0} (f : X → List ℕ) (x : X) → f x ≡ pre → (b : Bool) → Answers b (Ready T P s k r pre) → Finds pre (option_map f (then_some b x))
+    filled l f x e true d = subst (λ z. Finds pre (Some z)) (sym e) (filled_some l d)
+    filled l f x e false n = filled_none l n
 
     -- one head more
     more : (y : ℕ) → length pre < length HS → symbol_of (living P s y) ≡ Some (get_or HS (length pre) 0) → (y ∈ pre → ⊥) → (length pre ≡ h → y ≡ i) → Begun T P s k h i r (pre ++ (y ∷ []))

@@ -24,8 +24,8 @@ value_beside at k other t = cond (is_slot k other) (value_in at t) None
 module _ {B : Type 0} (P : PartnerTable.Ghosts B) where
   -- what stands in a slot, if its head is filled
   abbrev pub known_in : Partial B → ℕ → Option Operand
-  known_in f = partial_slot (rules_book f.rules.now).arities (store_in P f.table.now) f.heads.now (filler_at (ids f.tuple) f.head f.active)
+  known_in f = partial_slot (rules_book f.slots.rules.now).arities (store_in P f.slots.table.now) f.slots.heads.now (filler_at (ids f.slots.tuple) f.head f.active)
 
   -- the key of the first head that the identifiers do not fill
   abbrev pub key_in : Partial B → List (Primitive Term) → Option ℤ
-  key_in f gs = cond (nat_lt 0 (slice_index (rules_book f.rules.now).arities (slice_index f.heads.now (length (ids f.tuple))))) (key_from (known_in f) (slot_count (rules_book f.rules.now).arities (take (length (ids f.tuple)) f.heads.now)) gs) None
+  key_in f gs = cond (nat_lt 0 (slice_index (rules_book f.slots.rules.now).arities (slice_index f.slots.heads.now (length (ids f.slots.tuple))))) (key_from (known_in f) (slot_count (rules_book f.slots.rules.now).arities (take (length (ids f.slots.tuple)) f.slots.heads.now)) gs) None

@@ -1,3 +1,4 @@
+pub mod Attempts
 pub mod Places
 pub mod Slots
 pub mod Fillings

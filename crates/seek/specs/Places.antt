@@ -1,5 +1,7 @@
 -- Rules by number, and where a symbol stands in their heads. Assumes nothing.
-use Rattle.std.specs.Prelude.{◌≡◌, ℕ, ◌+◌, ◌<◌, ◌≤◌, List, ◌++◌, length, Some, Ok, Err, Result, slice_index_or}
+use Rattle.std.specs.Prelude.{◌≡◌, ℕ, ◌+◌, ◌<◌, ◌≤◌, List, ◌++◌, length, Some, slice_index_or}
+use Rattle.std.specs.declared.ops.ControlFlow.{ControlFlow}
+use Rattle.std.specs.declared.ops.ControlFlow.TheVariants.{Break, Continue}
 use Rattle.table.specs.Lists.{nth}
 use Rattle.rules.specs.Books.{Rule, Book, heads}
 use Rattle.machine.specs.Matching.{rule_at}
@@ -34,6 +36,6 @@ pub record PlaceLater (hs : List ℕ) (s index left : ℕ) : Type 0 where
   pub small : index ≤ left + length hs
 
 -- where the occurrence at the index stands, among the heads of one rule and the rules after it
-abbrev pub PlaceIn : List ℕ → ℕ → ℕ → Result ℕ ℕ → Type 0
-PlaceIn hs s index (Ok h) = PlaceFound hs s index h
-PlaceIn hs s index (Err left) = PlaceLater hs s index left
+abbrev pub PlaceIn : List ℕ → ℕ → ℕ → ControlFlow ℕ ℕ → Type 0
+PlaceIn hs s index (Break h) = PlaceFound hs s index h
+PlaceIn hs s index (Continue left) = PlaceLater hs s index left

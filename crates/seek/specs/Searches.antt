@@ -35,10 +35,6 @@ module _ {A B : Type 0} where
     pub theory : s.theory ≡ t.theory
     pub table : s.table ≡ t.table
 
--- at most three heads
-abbrev pub FewHeads : Rule → Type 0
-FewHeads r = length (heads r) ≤ 3
-
 -- a constraint that may fill the next head: it is not the active one, fills no head before, and has the symbol
 pub record MayFill (store : Store) (i symbol : ℕ) (pre : List ℕ) (x : ℕ) : Type 0 where
   pub other : x ≡ i → ⊥

@@ -3,8 +3,9 @@ use Rattle.std.specs.Prelude.{ℕ, suc, ◌-◌, cond, List, [], ◌∷◌, Some
 use Rattle.terms.specs.declared.Operand.{Operand}
 use Rattle.rulefile.specs.Rulebooks.{rules_book}
 use Rattle.table.specs.declared.partner.PartnerTable as PartnerTable
-use Rattle.table.specs.Lists.{first}
+use Rattle.table.specs.Lists.{first, nth}
 use Rattle.machine.specs.Matching.{Store, head_slot}
+use Rattle.machine.specs.Keys.{partial_slot}
 use Rattle.machine.specs.Tuples.{ids}
 use Rattle.seek.specs.declared.slots.Slots.{Slots}
 
@@ -26,3 +27,7 @@ module _ {B : Type 0} (P : PartnerTable.Ghosts B) where
   -- what stands in a slot of the heads
   abbrev pub slot_in : Slots B → ℕ → Operand
   slot_in f = head_slot (rules_book f.rules.now).arities (store_in f.table.now) f.heads.now (ids f.tuple)
+
+  -- the argument of the constraint at the head that a slot belongs to, if there is one
+  abbrev pub argument_in : Slots B → ℕ → Option Operand
+  argument_in f = partial_slot (rules_book f.rules.now).arities (store_in f.table.now) f.heads.now (λ p. nth (ids f.tuple) p)

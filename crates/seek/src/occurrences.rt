@@ -10,6 +10,7 @@ ghost use Rattle.seek.specs.Places.{InRange, RuleIs, HeadHas, PlaceIn};
 
 use rulefile::Rules;
 use rules::Rule;
+use std::ops::ControlFlow;
 
 /// The rule of that number, counted from 1, if there is one.
 pub fn rule(rules: &Rules, number: usize) -> Option<&Rule>
@@ -17,29 +18,24 @@ pub fn rule(rules: &Rules, number: usize) -> Option<&Rule>
     ensures valid { Valid (rules_book rules.now) }
 {
     let all = rules.rules();
-    if number == 0 || number > all.len() {
-        return None;
-    }
-    let place = number - 1;
-    Some(&all[place])
+    let place = number.checked_sub(1)?;
+    all.get(place)
 }
 
 /// The place of the head with the symbol that comes `index` after the last such head, counted from the last to the first; or how many of `index` are left where there are too few.
-fn place_in(heads: &[u8], symbol: u8, index: usize) -> Result<usize, usize>
+fn place_in(heads: &[u8], symbol: u8, index: usize) -> ControlFlow<usize, usize>
     ensures { PlaceIn heads.now symbol index result }
 {
     let mut left = index;
-    let mut place = heads.len();
-    while place > 0 {
-        place -= 1;
-        if heads[place] == symbol {
+    for (place, head) in heads.iter().enumerate().rev() {
+        if *head == symbol {
             if left == 0 {
-                return Ok(place);
+                return ControlFlow::Break(place);
             }
             left -= 1;
         }
     }
-    Err(left)
+    ControlFlow::Continue(left)
 }
 
 /// The rule's number and the head's place where a symbol occurs for the time `index`, counted from 0.
@@ -48,12 +44,11 @@ pub fn occurrence(rules: &Rules, symbol: u8, index: usize) -> Option<(usize, usi
     ensures has { IfSome result (λ o. HeadHas (rules_book rules.now) symbol o.0 o.1) }
     ensures small { OnSome result (index ≤ 100) }
 {
-    let all = rules.rules();
     let mut left = index;
-    for k in 0..all.len() {
-        match place_in(&all[k].heads, symbol, left) {
-            Ok(place) => return Some((k + 1, place)),
-            Err(rest) => left = rest,
+    for (k, rule) in rules.rules().iter().enumerate() {
+        match place_in(&rule.heads, symbol, left) {
+            ControlFlow::Break(place) => return Some((k + 1, place)),
+            ControlFlow::Continue(rest) => left = rest,
         }
     }
     None

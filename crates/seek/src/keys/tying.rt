@@ -14,7 +14,7 @@ use terms::{Operand, Primitive, Term};
 fn filler(tuple: Tuple, head: usize, active: u32, place: usize) -> Option<u32>
     ensures { result ≡ filler_at (ids tuple) head active place }
 {
-    let own = if place == head { Some(active) } else { None };
+    let own = (place == head).then_some(active);
     identifier_at(tuple, place).or(own)
 }
 
@@ -32,10 +32,7 @@ fn value(operand: Option<Operand>) -> Option<i32>
 fn is_slot(slot: u8, term: Term) -> bool
     ensures { result ≡ is_slot slot term }
 {
-    match term {
-        Term::Value(_) => false,
-        Term::Slot(k) => k == slot,
-    }
+    term == Term::Slot(slot)
 }
 
 impl<P: PartnerTable> Partial<'_, P> {
@@ -43,13 +40,10 @@ impl<P: PartnerTable> Partial<'_, P> {
     fn known(&self, slot: u8) -> Option<Operand>
         ensures { result ≡ known_in P.PartnerTable self.now slot }
     {
-        match locate(self.rules.signature(), self.heads, slot) {
-            Some((place, argument)) => {
-                let constraint = filler(self.tuple, self.head, self.active, place);
-                argument_of(self.table, constraint, argument)
-            }
-            None => None,
-        }
+        let slots = &self.slots;
+        let (place, argument) = locate(slots.rules.signature(), slots.heads, slot)?;
+        let constraint = filler(slots.tuple, self.head, self.active, place);
+        argument_of(slots.table, constraint, argument)
     }
 
     /// The value of a term, if it is known.
@@ -82,8 +76,7 @@ impl<P: PartnerTable> Partial<'_, P> {
                 let first = self.value_beside(slot, a, b);
                 first.or(self.value_beside(slot, b, a))
             }
-            Primitive::Least(_, _) => None,
-            Primitive::Most(_, _) => None,
+            Primitive::Least(_, _) | Primitive::Most(_, _) => None,
         }
     }
 
@@ -91,6 +84,7 @@ impl<P: PartnerTable> Partial<'_, P> {
     fn key_from(&self, slot: u8, guards: &[Primitive<Term>]) -> Option<i32>
         ensures { result ≡ key_from (known_in P.PartnerTable self.now) slot guards.now }
     {
+        // A loop, since nothing that is proved of `find_map` says which item it found.
         for guard in guards {
             let value = self.tied_to(slot, *guard);
             if value.is_some() {
@@ -102,15 +96,16 @@ impl<P: PartnerTable> Partial<'_, P> {
 
     /// The value by which the next head is sought: that to which the guards tie its first slot, if its symbol takes arguments.
     pub(crate) fn key(&self, guards: &[Primitive<Term>]) -> Option<i32>
-        requires few { length self.now.heads.now ≤ 3 }
-        requires left { length (ids self.now.tuple) < length self.now.heads.now }
+        requires few { length self.now.slots.heads.now ≤ 3 }
+        requires left { length (ids self.now.slots.tuple) < length self.now.slots.heads.now }
         ensures { result ≡ key_in P.PartnerTable self.now guards.now }
     {
-        let signature = self.rules.signature();
-        let place = self.tuple.as_slice().len();
-        if signature.arity(self.heads[place]) == 0 {
+        let slots = &self.slots;
+        let signature = slots.rules.signature();
+        let place = slots.tuple.as_slice().len();
+        if signature.arity(slots.heads[place]) == 0 {
             return None;
         }
-        self.key_from(signature.slots(&self.heads[..place]), guards)
+        self.key_from(signature.slots(&slots.heads[..place]), guards)
     }
 }

@@ -6,10 +6,10 @@ ghost use Rattle.machine.specs.Lists.{◌∈◌};
 ghost use Rattle.machine.specs.Tuples.{ids, firing_of};
 ghost use Rattle.seek.specs.Searches.{view, Guarded, Ready};
 
-use crate::partners::Search;
+use crate::partners::{Attempt, Search};
 use crate::slots::Slots;
+use crate::slots::filling::Filling;
 use machine::tuple::{Firing, Tuple};
-use rules::Rule;
 use table::partner::PartnerTable;
 use terms::{Primitive, Term};
 use theory::interface::Theory;
@@ -22,32 +22,28 @@ fn guarded<T: Theory, P: PartnerTable>(
 ) -> bool
     ensures { Answers result (Guarded T.Theory P.PartnerTable theory.now slots.now guards.now) }
 {
-    for guard in guards {
-        if !theory.ask(slots.fill_primitive(*guard)) {
-            return false;
-        }
-    }
-    true
+    guards
+        .iter()
+        .all(|guard| theory.ask(slots.fill_primitive(*guard)))
 }
 
 /// Whether the rule was applied to the tuple.
 fn was_applied(history: &[Firing], number: usize, tuple: Tuple) -> bool
     ensures { Answers result ((number, ids tuple) ∈ map firing_of history.now) }
 {
-    for firing in history {
-        if firing.rule == number && firing.tuple.same(&tuple) {
-            return true;
-        }
-    }
-    false
+    history.contains(&Firing {
+        rule: number,
+        tuple,
+    })
 }
 
 impl<'a, T: Theory, P: PartnerTable> Search<'a, T, P> {
     /// Whether the rule, if it removes nothing, was not applied to the tuple before, and its guards follow.
-    pub(super) fn ready(&self, number: usize, rule: &'a Rule, tuple: Tuple) -> bool
-        ensures { Answers result (Ready T.Theory P.PartnerTable (view self.now) number (rule_of rule.now) (ids tuple)) }
+    pub(super) fn ready(&self, attempt: Attempt<'a>, tuple: Tuple) -> bool
+        ensures { Answers result (Ready T.Theory P.PartnerTable (view self.now) attempt.entry.number (rule_of attempt.entry.rule.now) (ids tuple)) }
     {
-        if rule.removed_heads().is_empty() && was_applied(self.history, number, tuple) {
+        let rule = attempt.rule;
+        if rule.removed_heads().is_empty() && was_applied(self.history, attempt.number, tuple) {
             return false;
         }
         let slots = Slots {

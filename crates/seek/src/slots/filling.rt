@@ -1,10 +1,11 @@
 // Terms and primitives, filled with what stands in the slots.
-ghost use Rattle.std.specs.Prelude.{◌≡◌};
+ghost use Rattle.std.specs.Prelude.{◌≡◌, ℕ};
+ghost use Rattle.terms.specs.declared.Operand.{Operand};
 ghost use Rattle.table.specs.Lists.{nth};
 ghost use Rattle.machine.specs.Matching.{fill, fill_primitive};
 ghost use Rattle.machine.specs.Keys.{filled_argument};
 ghost use Rattle.machine.specs.Tuples.{ids};
-ghost use Rattle.seek.specs.Slots.{located, store_in, slot_in};
+ghost use Rattle.seek.specs.Slots.{located, store_in, slot_in, argument_in};
 
 use crate::slots::Slots;
 use machine::tuple::Tuple;
@@ -12,13 +13,44 @@ use rules::Signature;
 use table::partner::PartnerTable;
 use terms::{Operand, Primitive, Term};
 
+/// What an operand stands for each slot of a rule.
+pub trait Filling {
+    /// What stands in each slot.
+    ghost at: { Self → ℕ → Operand };
+
+    /// What stands in a slot.
+    fn slot(&self, slot: u8) -> Operand
+        ensures { result ≡ at self.now slot };
+
+    /// A term, with what stands in its slot.
+    final fn fill(&self, term: Term) -> Operand
+        ensures { result ≡ fill (at self.now) term }
+    {
+        match term {
+            Term::Value(n) => Operand::Value(n),
+            Term::Slot(k) => self.slot(k),
+        }
+    }
+
+    /// A primitive, with what stands in its slots.
+    final fn fill_primitive(&self, primitive: Primitive<Term>) -> Primitive<Operand>
+        ensures { result ≡ fill_primitive (at self.now) primitive }
+    {
+        match primitive {
+            Primitive::Same(a, b) => Primitive::Same(self.fill(a), self.fill(b)),
+            Primitive::Least(a, n) => Primitive::Least(self.fill(a), n),
+            Primitive::Most(a, n) => Primitive::Most(self.fill(a), n),
+        }
+    }
+}
+
 /// The head that a slot belongs to, and the argument of that head that it is.
 pub(crate) fn locate(signature: Signature<'_>, heads: &[u8], slot: u8) -> Option<(usize, usize)>
     ensures { result ≡ located signature.entry.arities.now heads.now slot }
 {
     let mut left = slot;
-    for place in 0..heads.len() {
-        let arity = signature.arity(heads[place]);
+    for (place, symbol) in heads.iter().enumerate() {
+        let arity = signature.arity(*symbol);
         if left < arity {
             return Some((place, left as usize));
         }
@@ -31,12 +63,7 @@ pub(crate) fn locate(signature: Signature<'_>, heads: &[u8], slot: u8) -> Option
 pub(crate) fn identifier_at(tuple: Tuple, place: usize) -> Option<u32>
     ensures { result ≡ nth (ids tuple) place }
 {
-    let identifiers = tuple.as_slice();
-    if place < identifiers.len() {
-        Some(identifiers[place])
-    } else {
-        None
-    }
+    tuple.as_slice().get(place).copied()
 }
 
 /// An argument of the constraint, if there is a constraint and it has that.
@@ -47,44 +74,24 @@ pub(crate) fn argument_of<P: PartnerTable>(
 ) -> Option<Operand>
     ensures { result ≡ filled_argument (store_in P.PartnerTable table.now) constraint argument }
 {
-    match constraint {
-        Some(identifier) => table.argument(identifier, argument),
-        None => None,
-    }
+    table.argument(constraint?, argument)
 }
 
 impl<P: PartnerTable> Slots<'_, P> {
-    /// What stands in a slot: the argument of the constraint at the head that the slot belongs to, and 0 where there is none.
-    pub fn slot(&self, slot: u8) -> Operand
-        ensures { result ≡ slot_in P.PartnerTable self.now slot }
+    /// The argument of the constraint at the head that a slot belongs to, if there is one.
+    fn argument(&self, slot: u8) -> Option<Operand>
+        ensures { result ≡ argument_in P.PartnerTable self.now slot }
     {
-        match locate(self.rules.signature(), self.heads, slot) {
-            Some((place, argument)) => {
-                let found = argument_of(self.table, identifier_at(self.tuple, place), argument);
-                found.unwrap_or(Operand::Value(0))
-            }
-            None => Operand::Value(0),
-        }
+        let (place, argument) = locate(self.rules.signature(), self.heads, slot)?;
+        argument_of(self.table, identifier_at(self.tuple, place), argument)
     }
+}
 
-    /// A term, with what stands in its slot.
-    pub fn fill(&self, term: Term) -> Operand
-        ensures { result ≡ fill (slot_in P.PartnerTable self.now) term }
-    {
-        match term {
-            Term::Value(n) => Operand::Value(n),
-            Term::Slot(k) => self.slot(k),
-        }
-    }
+impl<P: PartnerTable> Filling for Slots<'_, P> {
+    ghost at = { λ f. slot_in P.PartnerTable f };
 
-    /// A primitive, with what stands in its slots.
-    pub fn fill_primitive(&self, primitive: Primitive<Term>) -> Primitive<Operand>
-        ensures { result ≡ fill_primitive (slot_in P.PartnerTable self.now) primitive }
-    {
-        match primitive {
-            Primitive::Same(a, b) => Primitive::Same(self.fill(a), self.fill(b)),
-            Primitive::Least(a, n) => Primitive::Least(self.fill(a), n),
-            Primitive::Most(a, n) => Primitive::Most(self.fill(a), n),
-        }
+    /// The argument of the constraint at the head that the slot belongs to, and 0 where there is none.
+    fn slot(&self, slot: u8) -> Operand {
+        self.argument(slot).unwrap_or_default()
     }
 }

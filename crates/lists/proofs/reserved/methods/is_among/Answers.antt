@@ -1,5 +1,5 @@
 use Rattle.std.proofs.Common.{◌∙◌}
-use Rattle.lists.proofs.Members.{contains_memberb}
+use Rattle.machine.proofs.Members.{contains_memberb}
 use Rattle.lists.proofs.reserved.methods.is_among.Goals as goal
 
 pub returns : goal.returns

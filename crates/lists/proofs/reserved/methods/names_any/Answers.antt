@@ -2,7 +2,7 @@ use Rattle.std.proofs.Common.{rules, ◌∙◌}
 use Rattle.std.proofs.lemmas.Iterator.{YieldsList-from_slice}
 use Rattle.std.proofs.lemmas.Iterator.Search.{any_from_yields_List}
 use Rattle.table.specs.Lists.{memberb}
-use Rattle.lists.proofs.Members.{any_names}
+use Rattle.machine.proofs.Members.{any_names}
 use Rattle.lists.proofs.reserved.methods.names_any.Goals as goal
 
 pub returns : goal.returns

@@ -10,16 +10,16 @@ use Rattle.seek.proofs.keys.Partial.key.Goals as goal
 
 pub returns-then-arity-eq0 : goal.returns-then-arity-eq0
 returns-then-arity-eq0 g c =
-    let hs = c.args.self.now.heads.now in
-    let arities = (rules_book c.args.self.now.rules.now).arities in
-    let n = length (ids c.args.self.now.tuple) in
+    let hs = c.args.self.now.slots.heads.now in
+    let arities = (rules_book c.args.self.now.slots.rules.now).arities in
+    let n = length (ids c.args.self.now.slots.tuple) in
     when_none c.arity.result (get_or arities (get_or hs n 0) 0) (key_from (known_in g.P.PartnerTable c.args.self.now) (slot_count arities (take n hs)) c.args.guards.now) (c.arity.ensures.value ∙ ap (λ z. get_or z (get_or hs (length c.as_slice-place.result.now) 0) 0) c.signature-signature.ensures.value ∙ ap (λ z. get_or arities (get_or hs (length z) 0) 0) c.as_slice-place.ensures.value) c.if-arity-eq0.true
 
 pub returns : goal.returns
 returns g c =
-    let hs = c.args.self.now.heads.now in
-    let arities = (rules_book c.args.self.now.rules.now).arities in
-    let n = length (ids c.args.self.now.tuple) in
+    let hs = c.args.self.now.slots.heads.now in
+    let arities = (rules_book c.args.self.now.slots.rules.now).arities in
+    let n = length (ids c.args.self.now.slots.tuple) in
     let m = length c.as_slice-place.result.now in
     let few : length (take m hs) ≤ 3 = omega (arith, length-take-le m hs (omega (arith, ap length c.as_slice-place.ensures.value, c.requires.left)), c.requires.few, c.requires.left, ap length c.as_slice-place.ensures.value) in
     let sl : c.slots.result ≡ slot_count arities (take n hs) = (c.slots.ensures.few few).0 ∙ ap (λ z. slot_count z (take m hs)) c.signature-signature.ensures.value ∙ ap (λ z. slot_count arities (take (length z) hs)) c.as_slice-place.ensures.value in

@@ -12,5 +12,5 @@ use Rattle.seek.proofs.partners.Search.ready.Goals.{else-is_empty-via-then-is_em
 
 pub returns : goal.returns
 returns g c =
-    let none : c.is_empty.result ≡ removes_nothing (rule_of c.args.rule.now) = c.is_empty.ensures ∙ ap (λ z. eqb (length z) 0) c.removed_heads.ensures.value ∙ none_there (rule_of c.args.rule.now).removed in
-    ready_from g.T.Theory g.P.PartnerTable (view c.args.self.now) c.args.number (rule_of c.args.rule.now) (ids c.args.tuple) (elim c.else-is_empty.branch [ else-is_empty-via-then-is_empty+else-was_applied w ↦ (λ z. w.if-was_applied.ensures z.1) | else-is_empty-via-else-is_empty w ↦ (λ z. both_ways c.is_empty.result w.if-is_empty.false (none ∙ z.0)) ]) c.as_slice.result.now (c.as_slice.ensures.value ∙ heads_are c.args.rule.now) c.deref.result.now c.deref.ensures.value c.guarded.result c.guarded.ensures
+    let none : c.is_empty.result ≡ removes_nothing (rule_of c.args.attempt.rule.now) = c.is_empty.ensures ∙ ap (λ z. eqb (length z) 0) c.removed_heads.ensures.value ∙ none_there (rule_of c.args.attempt.rule.now).removed in
+    ready_from g.T.Theory g.P.PartnerTable (view c.args.self.now) c.args.attempt.number (rule_of c.args.attempt.rule.now) (ids c.args.tuple) (elim c.else-is_empty.branch [ else-is_empty-via-then-is_empty+else-was_applied w ↦ (λ z. w.if-was_applied.ensures z.1) | else-is_empty-via-else-is_empty w ↦ (λ z. both_ways c.is_empty.result w.if-is_empty.false (none ∙ z.0)) ]) c.as_slice.result.now (c.as_slice.ensures.value ∙ heads_are c.args.attempt.rule.now) c.deref.result.now c.deref.ensures.value c.guarded.result c.guarded.ensures
