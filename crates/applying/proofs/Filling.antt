@@ -5,13 +5,14 @@ use Rattle.std.proofs.lemmas.List.{take_more, take_all, map-append, length-map, 
 use Rattle.terms.specs.declared.Operand.{Operand}
 use Rattle.terms.specs.declared.Term.{Term}
 use Rattle.terms.specs.Lists.{All}
-use Rattle.terms.specs.Primitives.{TermValid}
+use Rattle.terms.specs.declared.Primitive.{Primitive}
+use Rattle.terms.specs.Primitives.{TermValid, PrimitiveValid}
 use Rattle.rules.specs.declared.Item.{Item}
-use Rattle.rules.specs.declared.Item.TheVariants.{Add}
-use Rattle.rules.specs.Books.{add}
+use Rattle.rules.specs.declared.Item.TheVariants.{Tell, Add}
+use Rattle.rules.specs.Books.{tell, add}
 use Rattle.rules.specs.Valids.{GoalValid}
 use Rattle.rules.specs.Views.{goal_of}
-use Rattle.machine.specs.Matching.{fill, fill_goal}
+use Rattle.machine.specs.Matching.{fill, fill_primitive, fill_goal}
 
 -- one more of at most four
 pub one_more : {A B : Type 0} (f : A → B) (ts : List A) (i : ℕ) (d : A) (xs ys : List B) (x : B) → i < length ts → length ts ≤ 4 → xs ≡ map f (take i ts) → x ≡ f (get_or ts i d) → ys ≡ take 4 (xs ++ (x ∷ [])) → ys ≡ map f (take (i + 1) ts)
@@ -27,3 +28,7 @@ constraint_filled arities short at n item s v e valid ts q xs f =
     let h = subst (λ z. GoalValid arities n (goal_of z)) e valid in
     ap (add s) (f (omega (arith, ap length q, h.1, short s)) (subst (All (TermValid n)) (sym q) h.2) ∙ ap (map (fill at)) q)
     ∙ ap (λ z. fill_goal at (goal_of z)) (sym e)
+
+-- a primitive of a body, filled
+pub primitive_told : (arities : List ℕ) (n : ℕ) (at : ℕ → Operand) (item : Item) (p : Primitive Term) → item ≡ Tell p → GoalValid arities n (goal_of item) → (q : Primitive Operand) → (PrimitiveValid n p → q ≡ fill_primitive at p) → tell q ≡ fill_goal at (goal_of item)
+primitive_told arities n at item p e valid q f = ap tell (f (subst (λ z. GoalValid arities n (goal_of z)) e valid)) ∙ ap (λ z. fill_goal at (goal_of z)) (sym e)

@@ -1,30 +1,32 @@
 -- A table takes every constraint of a filled body. Assumes nothing.
-use Rattle.std.proofs.Common.{◌≡◌, ℕ, ◌+◌, ◌-◌, ◌≤◌, Bool, true, false, ◌&&◌, T, ltb, leb, List, [], ◌∷◌, map, length, get_or, pos, negsuc, refl, arith}
+use Rattle.std.proofs.Common.{◌≡◌, ℕ, ◌+◌, ◌-◌, ◌<◌, ◌≤◌, min, cond, ◌⊎◌, inl, inr, sym, ap, ap₂, ◌∙◌, Bool, true, false, ◌&&◌, T, ltb, leb, List, [], ◌∷◌, map, length, get_or, pos, negsuc, refl, arith}
 use lib.Signed.{le_z}
 use Rattle.std.proofs.lemmas.List.{length-map}
-use Rattle.std.proofs.lemmas.Bool.{and_parts, and_from, lt-ltb, le-leb, cond_both}
+use Rattle.std.proofs.lemmas.Bool.{cases_lt, and_parts, and_from, lt-ltb, le-leb, cond_both}
 use Rattle.terms.specs.declared.Operand.{Operand}
 use Rattle.terms.specs.declared.Operand.TheVariants.{Variable}
 use Rattle.terms.specs.declared.Term.{Term}
 use Rattle.terms.specs.declared.Term.TheVariants as term
 use Rattle.terms.specs.Lists.{All}
-use Rattle.terms.specs.Primitives.{TermValid}
+use Rattle.terms.specs.declared.Primitive.{Primitive}
+use Rattle.terms.specs.declared.Primitive.TheVariants as primitive
+use Rattle.terms.specs.Primitives.{TermValid, PrimitiveValid}
 use Rattle.rules.specs.Books.{Goal, tell, add}
 use Rattle.rules.specs.Valids.{GoalValid}
 use Rattle.rulefile.specs.declared.loaded.Rules.{Rules}
 use Rattle.rulefile.specs.Rulebooks.{rules_book}
-use Rattle.rules.proofs.Slots.{few_each}
+use Rattle.rules.proofs.Slots.{few_each, few_slots}
 use Rattle.rules.proofs.ValidOnce.{validity}
 use Rattle.table.specs.declared.partner.PartnerTable as PartnerTable
 use Rattle.table.specs.Lists.{first}
 use Rattle.table.specs.Records.{Record, fit, fitting, all_fitting}
-use Rattle.machine.specs.Matching.{fill, fill_goal, arguments_of}
+use Rattle.machine.specs.Matching.{fill, fill_primitive, fill_goal, arguments_of}
 use Rattle.machine.specs.Tuples.{ids}
 use Rattle.machine.proofs.Stores.{slot_all}
 use Rattle.lists.specs.Entries.{storable}
 use Rattle.seek.specs.Slots.{store_in, slot_in}
 use Rattle.applying.specs.declared.body.Filler.{Filler}
-use Rattle.applying.specs.Fillers.{argument_counts, head_slots, operand_at}
+use Rattle.applying.specs.Fillers.{Numbered, argument_counts, head_slots, operand_at, placed_at}
 
 passed : (b : Bool) → T b → b ≡ true
 passed true t = refl
@@ -80,3 +82,23 @@ module _ {B : Type 0} (P : PartnerTable.Ghosts B) (fits : (t : B) (i : ℕ) → 
   -- so is that of the code
   pub item_storable : (n : ℕ) (g : Goal Term) → GoalValid (argument_counts f) n g → storable (fill_goal (operand_at P f) g) ≡ true
   item_storable n g h = filled_storable (argument_counts f) (loaded_few f.slots.rules.now) (loaded_short f.slots.rules.now) n (operand_at P f) at_fitting g h
+
+  -- where there are as many numbers, what the code puts in a slot is what stands there
+  placed : (n k : ℕ) → Numbered f n → k < n → placed_at P f k ≡ operand_at P f k
+  placed n k h l =
+      let few : head_slots f ≤ 12 = omega (arith, few_slots (argument_counts f) (loaded_short f.slots.rules.now) f.slots.heads.now, h.few_heads) in
+      let q : min (head_slots f) 255 ≡ head_slots f = omega (arith, few) in
+      ap (λ (m : ℕ). cond (ltb k m) (slot_in P f.slots k) (Variable (min (f.made + (k - m)) 255))) q ∙ go (cases_lt k (head_slots f))
+    where
+      go : (k < head_slots f) ⊎ (head_slots f ≤ k) → cond (ltb k (head_slots f)) (slot_in P f.slots k) (Variable (min (f.made + (k - head_slots f)) 255)) ≡ operand_at P f k
+      go (inl a) = let b = lt-ltb k (head_slots f) a in ap (λ z. cond z (slot_in P f.slots k) (Variable (min (f.made + (k - head_slots f)) 255))) b ∙ sym (ap (λ z. cond z (slot_in P f.slots k) (Variable (f.made + (k - head_slots f)))) b)
+      go (inr a) = ap (λ (m : ℕ). cond (ltb k (head_slots f)) (slot_in P f.slots k) (Variable m)) (omega (arith, h.small, l, a))
+
+  pub fill_placed : (n : ℕ) (t : Term) → Numbered f n → TermValid n t → fill (placed_at P f) t ≡ fill (operand_at P f) t
+  fill_placed n (term.Value v) h e = refl
+  fill_placed n (term.Slot k) h e = placed n k h e
+
+  pub primitive_placed : (n : ℕ) (p : Primitive Term) → Numbered f n → PrimitiveValid n p → fill_primitive (placed_at P f) p ≡ fill_primitive (operand_at P f) p
+  primitive_placed n (primitive.Same a b) h e = ap₂ primitive.Same (fill_placed n a h e.0) (fill_placed n b h e.1)
+  primitive_placed n (primitive.Least a m) h e = ap (λ z. primitive.Least z m) (fill_placed n a h e.0)
+  primitive_placed n (primitive.Most a m) h e = ap (λ z. primitive.Most z m) (fill_placed n a h e.0)

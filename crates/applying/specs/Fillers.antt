@@ -1,5 +1,5 @@
 -- What stands in the slots of a rule's body, and when its items can be filled and can wait. Assumes nothing.
-use Rattle.std.specs.Prelude.{ℕ, ◌+◌, ◌-◌, ◌≤◌, cond, List, length, nat_lt}
+use Rattle.std.specs.Prelude.{ℕ, ◌+◌, ◌-◌, ◌≤◌, cond, min, List, length, nat_lt}
 use Rattle.terms.specs.declared.Operand.{Operand}
 use Rattle.terms.specs.declared.Operand.TheVariants.{Variable}
 use Rattle.terms.specs.declared.Term.{Term}
@@ -37,3 +37,7 @@ module _ {B : Type 0} (P : PartnerTable.Ghosts B) where
   -- what stands in a slot of the body: what the head slots have, and then the fresh variables, numbered from the made ones on
   abbrev pub operand_at : Filler B → ℕ → Operand
   operand_at f k = cond (nat_lt k (head_slots f)) (slot_in P f.slots k) (Variable (f.made + (k - head_slots f)))
+
+  -- the same of as many slots and variables as have numbers below 256
+  abbrev pub placed_at : Filler B → ℕ → Operand
+  placed_at f k = cond (nat_lt k (min (head_slots f) 255)) (slot_in P f.slots k) (Variable (min (f.made + (k - min (head_slots f) 255)) 255))

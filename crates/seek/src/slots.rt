@@ -3,7 +3,7 @@
 use machine::tuple::Tuple;
 use rulefile::Rules;
 
-pub(crate) mod filling;
+pub mod filling;
 
 /// The heads of a rule, by their symbols, with a tuple that fills them.
 #[derive(Drop)]

@@ -23,8 +23,8 @@ impl<P: PartnerTable> Filler<'_, P> {
     fn push_items(&self, lists: &mut Lists, items: &[Item])
         ensures { (n : ℕ) → ItemsFit self.now lists.old (map goal_of items.now) n → Waits lists.old lists.new (map goal_entry (map (fill_goal (operand_at P.PartnerTable self.now)) (map goal_of items.now)) ++ waiting_of lists.old) }
     {
-        for place in (0..items.len()).rev() {
-            let _ = lists.push(self.fill_item(&items[place]));
+        for item in items.iter().rev() {
+            let _ = lists.push(self.fill_item(item));
         }
     }
 }
