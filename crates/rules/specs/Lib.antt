@@ -3,6 +3,7 @@ pub mod Valids
 pub mod Views
 pub mod Codes
 pub mod Format
+pub mod Kinds
 pub mod Refusals
 pub mod Parse
 pub mod Files

@@ -8,10 +8,13 @@ ghost use Rattle.rules.specs.declared.LoadRefusal.TheVariants.{NoMemory};
 ghost use Rattle.rules.specs.Refusals.{refusal_number, refusal_place, refusal_text};
 ghost use Rattle.rules.specs.Views.{rule_of};
 
+mod kind;
 mod signature;
 
+pub use kind::{ADD_KIND, ItemKind, Kind, PrimitiveKind, TermKind, UnknownKind};
 pub use signature::Signature;
 use std::alloc::AllocError;
+use std::error::Error;
 use std::fmt;
 use terms::{Primitive, Term};
 
@@ -43,7 +46,7 @@ impl Rule {
         ensures bound { length result.now ≤ vec_len self.now.heads }
     {
         let kept = self.heads.len().min(self.kept as usize);
-        &self.heads[0..kept]
+        &self.heads[..kept]
     }
 
     /// The symbols of the removed heads.
@@ -129,6 +132,8 @@ impl fmt::Display for LoadRefusal {
     }
 }
 
+impl Error for LoadRefusal {}
+
 /// The number that a value is written as: twice the value, or one less than twice its opposite when negative.
 pub fn value_code(value: i32) -> u32
     ensures { result ≡ code_of value }
@@ -154,10 +159,5 @@ pub fn example_codes() -> [u32; 4]
     ensures bytes { ValuesWritten }
     ensures refused { LastZeroRefused }
 {
-    [
-        value_code(0),
-        value_code(-1),
-        value_code(64),
-        value_code(-64),
-    ]
+    [0, -1, 64, -64].map(value_code)
 }

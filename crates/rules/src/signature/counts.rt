@@ -17,11 +17,7 @@ impl Signature<'_> {
         ensures value { result ≡ slice_index self.now.arities.now symbol }
         ensures few { result ≤ 4 }
     {
-        if symbol < self.symbols() {
-            self.arities[symbol as usize]
-        } else {
-            0
-        }
+        self.arities.get(symbol as usize).copied().unwrap_or(0)
     }
 
     /// How many slots heads have together, up to 255.

@@ -1,8 +1,10 @@
-use Rattle.std.proofs.Common.{vec_items, arith}
-use Rattle.rules.proofs.Cuts.{back_part}
+use Rattle.std.proofs.Common.{vec_items, arith, length-take}
+use Rattle.std.proofs.lemmas.Grind.{common_steps}
+use Rattle.rules.proofs.Cuts.{back_cut}
 use Rattle.rules.proofs.Rule.removed_heads.Goals as goal
 
-pub returns : goal.returns
-returns c =
-    let part = back_part c.args.self.now.kept c.min-start.result (vec_items c.args.self.now.heads) c.deref.result.now c.deref.ensures.value (omega (arith, c.min-start.ensures, c.len.ensures, c.args.self.now.heads.ok.0)) in
-    record { value = part.0; bound = omega (arith, part.1, c.args.self.now.heads.ok.0) }
+pub returns-clause-value : goal.returns-clause-value
+returns-clause-value c = rw c.deref.ensures.value (back_cut c.args.self.now.kept c.min-start.result (vec_items c.args.self.now.heads) (omega (arith, c.args.self.now.heads.ok.0)))
+
+pub returns-clause-bound : goal.returns-clause-bound
+returns-clause-bound c = grind (arith, length-take, common_steps)
