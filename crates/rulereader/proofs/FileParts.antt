@@ -1,14 +1,14 @@
 -- A book and a file, from what their parts got.
-use Rattle.std.proofs.Common.{◌≡◌, ℕ, zero, suc, ◌<◌, ◌≤◌, true, ltb, List, [], ◌∷◌, map, length, get_or, drop, Ok, Err, Result, sym, refl, ap, ◌∙◌, subst, drop_of_length-le, drop-cons}
+use Rattle.std.proofs.Common.{◌≡◌, ℕ, zero, suc, ◌<◌, ◌≤◌, true, ltb, List, [], ◌∷◌, map, length, get_or, drop, Err, Result, sym, ap, ◌∙◌, subst, drop-cons}
 use Rattle.std.proofs.lemmas.Bool.{ltb-false, le-ltb}
 use Rattle.terms.specs.Lists.{All}
-use Rattle.rules.specs.Books.{Book, Rule}
+use Rattle.rules.specs.Books.{Book}
 use Rattle.rules.specs.Files.{begins, whole, file}
 use Rattle.rules.specs.Format.{mark}
-use Rattle.rules.specs.Parse.{Parser, got, refused, number, ranged, many, list, rule, book}
+use Rattle.rules.specs.Parse.{Parser, got, number, ranged, many, list, book}
 use Rattle.rules.specs.declared.LoadRefusal.{LoadRefusal}
 use Rattle.rules.specs.declared.LoadRefusal.TheVariants.{TooLong, Foreign, Trailing}
-use Rattle.rules.proofs.Outcomes.{never, branch, inverted, got_is, step, fails, on, off}
+use Rattle.rules.proofs.Outcomes.{never, branch, inverted, got_is, on, off}
 use Rattle.rules.proofs.Slots.{few_each}
 use Rattle.rulereader.specs.Reads.{ahead, run, Passed}
 use Rattle.rulereader.specs.declared.reader.Reader.{Reader}
@@ -35,15 +35,6 @@ arities_read xs r r₁ e =
       few_each xs (many_all (ranged 0 4) (λ a. a ≤ 4) (λ k s a k' s' q. ranged_inside 0 4 k s a k' s' q) n k s xs _ _ e₁),
     ))
 
-pub book_read : (xs ys : List ℕ) (rs : List Rule) (r r₁ r₂ : Reader) → Passed (list 1 32 (ranged 0 4)) r (map (λ (x : ℕ). x) xs) r₁ → ys ≡ xs → Passed (list 0 32 (rule ys)) r₁ rs r₂ →
-    Passed book r (record { arities = xs; rules = rs }) r₂
-book_read xs ys rs r r₁ r₂ e q e₁ =
-    (e₁.0 ∙ e.0, step _ (got_same xs e.1) (step _ (subst (λ zs. run (list 0 32 (rule zs)) r₁ ≡ got rs r₂.pos (ahead r₂)) q e₁.1) refl))
-
-pub book_refused : (xs ys : List ℕ) (x : LoadRefusal) (r r₁ : Reader) → Passed (list 1 32 (ranged 0 4)) r (map (λ (x : ℕ). x) xs) r₁ → ys ≡ xs → run (list 0 32 (rule ys)) r₁ ≡ refused x →
-    run book r ≡ refused x
-book_refused xs ys x r r₁ e q e₁ = step _ (got_same xs e.1) (fails _ (subst (λ zs. run (list 0 32 (rule zs)) r₁ ≡ refused x) q e₁))
-
 -- a file whose book is read
 file_read : (s : List ℕ) (b : Book) (r r₁ : Reader) {o : Result Book LoadRefusal} → length s ≤ 4096 → begins mark s ≡ true → r.pos ≡ 4 → r.src.now ≡ s → Passed book r b r₁ →
     whole (got b r₁.pos (drop r₁.pos s)) ≡ o → file s ≡ o
@@ -58,9 +49,3 @@ pub file_over : (s : List ℕ) (b : Book) (r r₁ : Reader) (k : ℕ) → length
 file_over s b r r₁ k l m p q e z h =
     let lt : r₁.pos < length s = subst (λ t. r₁.pos < length t) (e.0 ∙ q) h in
     rw z (file_read s b r r₁ l m p q e (ap (λ t. whole (got b r₁.pos t)) (drop-cons s r₁.pos 0 lt)))
-
-pub file_whole : (s : List ℕ) (b : Book) (r r₁ : Reader) → length s ≤ 4096 → begins mark s ≡ true → r.pos ≡ 4 → r.src.now ≡ s → Passed book r b r₁ →
-    length r₁.src.now ≤ r₁.pos → file s ≡ Ok b
-file_whole s b r r₁ l m p q e h =
-    let le : length s ≤ r₁.pos = subst (λ t. length t ≤ r₁.pos) (e.0 ∙ q) h in
-    file_read s b r r₁ l m p q e (ap (λ t. whole (got b r₁.pos t)) (drop_of_length-le s le))

@@ -6,10 +6,8 @@ ghost use Rattle.rules.specs.Books.{Goal};
 ghost use Rattle.rules.specs.Parse.{ranged, index, term, guard, goal};
 ghost use Rattle.rules.specs.Views.{goal_of};
 
-use crate::production::{Production, parts};
-use crate::reader::Reader;
-use rules::{Item, LoadRefusal, Signature};
-use std::alloc::Global;
+use crate::reader::{Production, Reader};
+use rules::{Item, ItemKind, LoadRefusal, Signature};
 use terms::{Primitive, Term};
 
 /// The argument count of a symbol.
@@ -25,7 +23,7 @@ impl Production for ArityPart {
 
     ghost parser = { λ _. ranged 0 4 };
 
-    fn read(&self, reader: &mut Reader<'_>, _heap: Global) -> Result<u8, LoadRefusal> {
+    fn read(&self, reader: &mut Reader<'_>) -> Result<u8, LoadRefusal> {
         let arity = reader.ranged(0, 4)?;
         Ok(arity as u8)
     }
@@ -46,7 +44,7 @@ impl Production for HeadPart {
 
     ghost parser = { λ p. index p.symbols };
 
-    fn read(&self, reader: &mut Reader<'_>, _heap: Global) -> Result<u8, LoadRefusal> {
+    fn read(&self, reader: &mut Reader<'_>) -> Result<u8, LoadRefusal> {
         reader.index(self.symbols)
     }
 }
@@ -66,7 +64,7 @@ impl Production for ArgumentPart {
 
     ghost parser = { λ p. term p.slots };
 
-    fn read(&self, reader: &mut Reader<'_>, _heap: Global) -> Result<Term, LoadRefusal> {
+    fn read(&self, reader: &mut Reader<'_>) -> Result<Term, LoadRefusal> {
         reader.term(self.slots)
     }
 }
@@ -86,7 +84,7 @@ impl Production for GuardPart {
 
     ghost parser = { λ p. guard p.slots };
 
-    fn read(&self, reader: &mut Reader<'_>, _heap: Global) -> Result<Primitive<Term>, LoadRefusal> {
+    fn read(&self, reader: &mut Reader<'_>) -> Result<Primitive<Term>, LoadRefusal> {
         reader.guard(self.slots)
     }
 }
@@ -107,15 +105,15 @@ impl<'a> Production for ItemPart<'a> {
 
     ghost parser = { λ p. goal p.signature.arities.now p.slots };
 
-    fn read(&self, reader: &mut Reader<'_>, heap: Global) -> Result<Item, LoadRefusal> {
-        let kind = reader.ranged(0, 3)?;
-        if kind == 3 {
-            let symbol = reader.index(self.signature.symbols())?;
-            let count = self.signature.arity(symbol) as usize;
-            let arguments = parts(&ArgumentPart { slots: self.slots }, reader, heap, count)?;
-            return Ok(Item::Add { symbol, arguments });
+    fn read(&self, reader: &mut Reader<'_>) -> Result<Item, LoadRefusal> {
+        match reader.kind()? {
+            ItemKind::Tell(kind) => Ok(Item::Tell(reader.primitive(kind, self.slots)?)),
+            ItemKind::Add => {
+                let symbol = reader.index(self.signature.symbols())?;
+                let count = self.signature.arity(symbol) as usize;
+                let arguments = reader.parts(&ArgumentPart { slots: self.slots }, count)?;
+                Ok(Item::Add { symbol, arguments })
+            }
         }
-        let primitive = reader.primitive(kind, self.slots)?;
-        Ok(Item::Tell(primitive))
     }
 }

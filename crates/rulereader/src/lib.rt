@@ -9,12 +9,10 @@ ghost use Rattle.rulereader.specs.Contents.{contents_book};
 ghost use Rattle.rulereader.specs.Reads.{Loads};
 
 mod item;
-mod production;
 mod reader;
 mod rule;
 
 use item::ArityPart;
-use production::list;
 use reader::Reader;
 use rule::RulePart;
 use rules::{LoadRefusal, MARK, Rule, Signature};
@@ -40,8 +38,8 @@ pub fn read_file(heap: Global, bytes: &[u8]) -> Result<FileContents, LoadRefusal
     if !is_marked(bytes) {
         return Err(LoadRefusal::Foreign);
     }
-    let mut reader = Reader::after_mark(bytes);
-    let contents = read_book(&mut reader, heap)?;
+    let mut reader = Reader::after_mark(bytes, heap);
+    let contents = read_book(&mut reader)?;
     match reader.place_left() {
         Some(place) => Err(LoadRefusal::Trailing(place)),
         None => Ok(contents),
@@ -56,11 +54,11 @@ fn is_marked(bytes: &[u8]) -> bool
 }
 
 /// All that follows the four bytes.
-fn read_book(reader: &mut Reader<'_>, heap: Global) -> Result<FileContents, LoadRefusal>
+fn read_book(reader: &mut Reader<'_>) -> Result<FileContents, LoadRefusal>
     ensures { Loads contents_book book reader.old result reader.new }
 {
-    let arities = list(&ArityPart, reader, heap, 1, 32)?;
+    let arities = reader.list(&ArityPart, 1, 32)?;
     let signature = Signature { arities: &arities };
-    let rules = list(&RulePart { signature }, reader, heap, 0, 32)?;
+    let rules = reader.list(&RulePart { signature }, 0, 32)?;
     Ok(FileContents { arities, rules })
 }

@@ -1,24 +1,24 @@
 // Reads numbers, values, terms and primitives.
 ghost use Rattle.std.specs.Prelude.{ℕ, ◌+◌, ◌<◌, ◌≤◌, IfOk};
 ghost use Rattle.rules.specs.Parse.{byte, number, ranged, index, value, term, primitive, guard, head_counts};
-ghost use Rattle.rulereader.specs.Reads.{Reads};
+ghost use Rattle.rules.specs.Kinds.{primitive_kind_number};
+ghost use Rattle.rulereader.specs.Reads.{Reads, ReadsAs};
 
 use crate::reader::Reader;
-use rules::{LoadRefusal, code_value};
+use rules::{Kind, LoadRefusal, PrimitiveKind, TermKind, code_value};
 use terms::{Primitive, Term};
 
 impl Reader<'_> {
+    /// The next byte.
     fn byte(&mut self) -> Result<u8, LoadRefusal>
         ensures { Reads byte self.old result self.new }
     {
-        if self.pos >= self.src.len() {
-            return Err(LoadRefusal::Ended(self.pos));
-        }
-        let b = self.src[self.pos];
+        let b = *self.src.get(self.pos).ok_or(LoadRefusal::Ended(self.pos))?;
         self.pos += 1;
         Ok(b)
     }
 
+    /// A number: one to three bytes of seven bits each, lowest first.
     pub(crate) fn number(&mut self) -> Result<u32, LoadRefusal>
         ensures below { IfOk result (λ n. n < 2_097_152) }
         ensures reads { Reads number self.old result self.new }
@@ -42,14 +42,15 @@ impl Reader<'_> {
         Ok(u32::from(first) - 128 + 128 * (u32::from(second) - 128) + 16_384 * u32::from(third))
     }
 
-    /// A count, a kind or a value's code, from `low` to `high`.
+    /// A count or a value's code, from `low` to `high`.
+    // Two numbers and no range: a range can be used up, and each clause here would have to rule that out.
     pub(crate) fn ranged(&mut self, low: u32, high: u32) -> Result<u32, LoadRefusal>
         ensures inside { IfOk result (λ n. (low ≤ n) × (n ≤ high)) }
         ensures reads { Reads (ranged low high) self.old result self.new }
     {
         let place = self.pos;
         let n = self.number()?;
-        if n < low || n > high {
+        if !(low..=high).contains(&n) {
             return Err(LoadRefusal::OutOfRange(place));
         }
         Ok(n)
@@ -68,6 +69,7 @@ impl Reader<'_> {
         Ok(n as u8)
     }
 
+    /// A value, by its code.
     fn value(&mut self) -> Result<i32, LoadRefusal>
         ensures { Reads value self.old result self.new }
     {
@@ -75,37 +77,46 @@ impl Reader<'_> {
         Ok(code_value(code))
     }
 
+    /// A kind, by its number.
+    pub(crate) fn kind<K: Kind>(&mut self) -> Result<K, LoadRefusal>
+        ensures { ReadsAs K.Kind.number (ranged 0 K.Kind.most) self.old result self.new }
+    {
+        let place = self.pos;
+        let number = self.number()?;
+        K::try_from(number).map_err(|_| LoadRefusal::OutOfRange(place))
+    }
+
+    /// An operand of a rule over `slots` slots.
     pub(crate) fn term(&mut self, slots: u8) -> Result<Term, LoadRefusal>
         ensures { Reads (term slots) self.old result self.new }
     {
-        if self.ranged(0, 1)? == 0 {
-            Ok(Term::Value(self.value()?))
-        } else {
-            Ok(Term::Slot(self.index(slots)?))
+        match self.kind()? {
+            TermKind::Value => Ok(Term::Value(self.value()?)),
+            TermKind::Slot => Ok(Term::Slot(self.index(slots)?)),
         }
     }
 
     /// A primitive, whose kind is read already.
-    pub(crate) fn primitive(&mut self, kind: u32, slots: u8) -> Result<Primitive<Term>, LoadRefusal>
-        ensures { Reads (primitive slots kind) self.old result self.new }
+    pub(crate) fn primitive(
+        &mut self,
+        kind: PrimitiveKind,
+        slots: u8,
+    ) -> Result<Primitive<Term>, LoadRefusal>
+        ensures { Reads (primitive slots (primitive_kind_number kind)) self.old result self.new }
     {
         let left = self.term(slots)?;
-        if kind == 0 {
-            let right = self.term(slots)?;
-            return Ok(Primitive::Same(left, right));
-        }
-        let bound = self.value()?;
-        if kind == 1 {
-            Ok(Primitive::Least(left, bound))
-        } else {
-            Ok(Primitive::Most(left, bound))
+        match kind {
+            PrimitiveKind::Same => Ok(Primitive::Same(left, self.term(slots)?)),
+            PrimitiveKind::Least => Ok(Primitive::Least(left, self.value()?)),
+            PrimitiveKind::Most => Ok(Primitive::Most(left, self.value()?)),
         }
     }
 
+    /// A guard over `slots` slots.
     pub(crate) fn guard(&mut self, slots: u8) -> Result<Primitive<Term>, LoadRefusal>
         ensures { Reads (guard slots) self.old result self.new }
     {
-        let kind = self.ranged(0, 2)?;
+        let kind = self.kind()?;
         self.primitive(kind, slots)
     }
 
@@ -118,7 +129,7 @@ impl Reader<'_> {
         let place = self.pos;
         let removed = self.number()?;
         let heads = kept + removed;
-        if heads < 1 || heads > 3 {
+        if !(1..=3).contains(&heads) {
             return Err(LoadRefusal::OutOfRange(place));
         }
         Ok((kept as u8, removed as u8))

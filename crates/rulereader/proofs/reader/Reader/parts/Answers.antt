@@ -1,14 +1,8 @@
-use Rattle.std.proofs.Common.{map, vec_items, refl, ap, ◌∙◌, inl, inr, ⊎_elim, rules}
+use Rattle.std.proofs.Common.{map, vec_items, ap, ◌∙◌, inl, inr, ⊎_elim, rules}
 use Rattle.std.proofs.lemmas.List.{map_push}
 use Rattle.std.proofs.lemmas.Result.{err_from_is_err_and}
-use Rattle.rulereader.specs.Reads.{ahead}
-use Rattle.rulereader.proofs.Ahead.{sofar_none, sofar_more, sofar_refused, sofar_all}
-use Rattle.rulereader.proofs.production.parts.Goals as goal
-
-pub loop-init : goal.loop-init
-loop-init g c =
-    let made = c.in_ok-all.ensures in
-    (refl, rw made.items (sofar_none (g.P.Production.parser c.args.production.now) c.args.count c.args.reader.now.pos (ahead c.args.reader.now)), made.len, made.capacity)
+use Rattle.rulereader.proofs.Ahead.{sofar_more, sofar_refused, sofar_all}
+use Rattle.rulereader.proofs.reader.Reader.parts.Goals as goal
 
 pub returns-in_err-part : goal.returns-in_err-part
 returns-in_err-part g c =

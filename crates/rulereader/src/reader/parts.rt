@@ -1,0 +1,52 @@
+// Reads parts of which several stand in a row.
+ghost use Rattle.std.specs.Prelude.{ℕ, map};
+ghost use Rattle.rules.specs.Parse.{Parser, list, many};
+ghost use Rattle.rulereader.specs.Reads.{Loads};
+
+use crate::reader::Reader;
+use rules::LoadRefusal;
+
+/// How to read one of several parts in a row.
+pub trait Production {
+    type Part: Drop;
+
+    ghost Seen: { Type 0 };
+
+    ghost view: { Self.Part → Seen };
+
+    ghost parser: { Self → Parser Seen };
+
+    fn read(&self, reader: &mut Reader<'_>) -> Result<Self::Part, LoadRefusal>
+        ensures { Loads view (parser self.now) reader.old result reader.new };
+}
+
+impl Reader<'_> {
+    /// `count` parts in a row.
+    pub(crate) fn parts<P: Production>(
+        &mut self,
+        production: &P,
+        count: usize,
+    ) -> Result<Vec<P::Part>, LoadRefusal>
+        ensures { Loads (λ v. map P.Production.view v.items) (many count (P.Production.parser production.now)) self.old result self.new }
+    {
+        let mut all = Vec::with_capacity(self.alloc, count)?;
+        for _ in 0..count {
+            let part = production.read(self)?;
+            all.push_reserved(part);
+        }
+        Ok(all)
+    }
+
+    /// A count from `low` to `high`, and so many parts.
+    pub(crate) fn list<P: Production>(
+        &mut self,
+        production: &P,
+        low: u32,
+        high: u32,
+    ) -> Result<Vec<P::Part>, LoadRefusal>
+        ensures { Loads (λ v. map P.Production.view v.items) (list low high (P.Production.parser production.now)) self.old result self.new }
+    {
+        let count = self.ranged(low, high)?;
+        self.parts(production, count as usize)
+    }
+}
