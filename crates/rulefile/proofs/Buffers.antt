@@ -1,8 +1,7 @@
 -- Bytes that are written one after another into a buffer.
-use Rattle.std.proofs.Common.{◌≡◌, ℕ, zero, suc, ◌+◌, ◌<◌, ◌≤◌, List, [], ◌∷◌, ◌++◌, length, get_or, take, drop, set, Ok, Err, Result, sym, refl, ap, ◌∙◌, subst, append_assoc, append-nil, add-zero, add-one, arith, length-append, length-set, take-append-drop, take-suc, take-suc-set, drop-set-lt}
-use Rattle.terms.specs.Lists.{All}
+use Rattle.std.proofs.Common.{◌≡◌, ℕ, suc, ◌+◌, ◌<◌, ◌≤◌, List, [], ◌∷◌, ◌++◌, length, get_or, take, drop, set, Ok, Err, Result, sym, refl, ap, ◌∙◌, subst, append_assoc, append-nil, add-zero, add-one, arith, length-append, length-set, take-append-drop, take-suc, take-suc-set, drop-set-lt}
 use Rattle.rules.specs.Format.{each}
-use Rattle.rulefile.specs.Written.{written, Wrote, Writes}
+use Rattle.rulefile.specs.Written.{written, Wrote, RanOut, Writes}
 use Rattle.rulefile.specs.declared.writer.Writer.{Writer}
 
 length_written : (d : List ℕ) (k : ℕ) (x : List ℕ) → length (written d k x) ≡ length d
@@ -16,24 +15,26 @@ written_append d k (b ∷ x) y =
     written_append (set d k b) (k + 1) x y ∙ ap (λ n. written (written (set d k b) (k + 1) x) n y) e
 
 pub wrote_none : (w : Writer) → Wrote [] w w
-wrote_none w = record { after = refl; place = sym (add-zero w.pos) }
+wrote_none w = record { same = refl; after = refl; place = sym (add-zero w.pos) }
 
-pub wrote_then : (x y : List ℕ) (w w₁ w₂ : Writer) → Wrote x w w₁ → Wrote y w₁ w₂ → Wrote (x ++ y) w w₂
-wrote_then x y w w₁ w₂ p q = record {
+pub wrote_then : {x y : List ℕ} {w w₁ w₂ : Writer} → Wrote x w w₁ → Wrote y w₁ w₂ → Wrote (x ++ y) w w₂
+wrote_then {x} {y} {w} {w₁} p q = record {
+  same = q.same ∙ p.same;
   after = q.after ∙ ap (λ b. written b w₁.pos y) p.after ∙ ap (λ n. written (written w.dst.now w.pos x) n y) p.place ∙ sym (written_append w.dst.now w.pos x y);
   place = omega (arith, length-append x y, p.place, q.place);
 }
 
-pub short_first : (x y : List ℕ) (w : Writer) → length w.dst.now < w.pos + length x → length w.dst.now < w.pos + length (x ++ y)
-short_first x y w h = omega (arith, length-append x y)
+-- too little room for the first bytes, and for the bytes after the first
+pub short_first : {x : List ℕ} {w v : Writer} (y : List ℕ) → RanOut x w v → RanOut (x ++ y) w v
+short_first {x} y h = record { same = h.same; short = omega (arith, length-append x y, h.short) }
 
-pub short_then : (x y : List ℕ) (w w₁ : Writer) → Wrote x w w₁ → length w₁.dst.now < w₁.pos + length y → length w.dst.now < w.pos + length (x ++ y)
-short_then x y w w₁ p h = omega (arith, length-append x y, p.place, ap length p.after, length_written w.dst.now w.pos x)
+pub short_then : {x y : List ℕ} {w w₁ v : Writer} → Wrote x w w₁ → RanOut y w₁ v → RanOut (x ++ y) w v
+short_then {x} {y} {w} p h = record { same = h.same ∙ p.same; short = omega (arith, length-append x y, p.place, h.short, ap length p.after, length_written w.dst.now w.pos x) }
 
 -- bytes that were written, and then what a call answers of more
-pub writes_then : {A E : Type 0} (x y : List ℕ) (w w₁ w₂ : Writer) (r : Result A E) → Wrote x w w₁ → Writes y w₁ r w₂ → Writes (x ++ y) w r w₂
-writes_then x y w w₁ w₂ (Ok _) p q = wrote_then x y w w₁ w₂ p q
-writes_then x y w w₁ w₂ (Err _) p q = short_then x y w w₁ p q
+pub writes_then : {A E : Type 0} {x : List ℕ} {w w₁ : Writer} (y : List ℕ) (r : Result A E) (v : Writer) → Wrote x w w₁ → Writes y w₁ r v → Writes (x ++ y) w r v
+writes_then y (Ok _) v p q = wrote_then p q
+writes_then y (Err _) v p q = short_then p q
 
 module _ {A : Type 0} (f : A → List ℕ) where
   each_append : (xs ys : List A) → each f (xs ++ ys) ≡ each f xs ++ each f ys
@@ -44,20 +45,12 @@ module _ {A : Type 0} (f : A → List ℕ) where
   each_more xs i a h = ap (each f) (ap (λ n. take n xs) (add-one i) ∙ take-suc xs i a h) ∙ each_append (take i xs) (get_or xs i a ∷ []) ∙ ap (λ t. each f (take i xs) ++ t) (append-nil (f (get_or xs i a)))
 
   pub wrote_more : (xs : List A) (i : ℕ) (a : A) (w w₁ w₂ : Writer) → i < length xs → Wrote (each f (take i xs)) w w₁ → Wrote (f (get_or xs i a)) w₁ w₂ → Wrote (each f (take (i + 1) xs)) w w₂
-  wrote_more xs i a w w₁ w₂ h p q = subst (λ x. Wrote x w w₂) (sym (each_more xs i a h)) (wrote_then _ _ w w₁ w₂ p q)
+  wrote_more xs i a w w₁ w₂ h p q = subst (λ x. Wrote x w w₂) (sym (each_more xs i a h)) (wrote_then p q)
 
-  pub short_more : (xs : List A) (i : ℕ) (a : A) (w w₁ : Writer) → i < length xs → Wrote (each f (take i xs)) w w₁ → length w₁.dst.now < w₁.pos + length (f (get_or xs i a)) →
-      length w.dst.now < w.pos + length (each f xs)
-  short_more xs i a w w₁ h p q =
+  pub short_more : (xs : List A) (i : ℕ) (a : A) (w w₁ v : Writer) → i < length xs → Wrote (each f (take i xs)) w w₁ → RanOut (f (get_or xs i a)) w₁ v → RanOut (each f xs) w v
+  short_more xs i a w w₁ v h p q =
       let whole : each f xs ≡ each f (take (i + 1) xs) ++ each f (drop (i + 1) xs) = ap (each f) (sym (take-append-drop (i + 1) xs)) ∙ each_append (take (i + 1) xs) (drop (i + 1) xs) in
-      let s = short_then (each f (take i xs)) (f (get_or xs i a)) w w₁ p q in
-      let t : length w.dst.now < w.pos + length (each f (take (i + 1) xs)) = rw (each_more xs i a h) s in
-      rw whole (short_first _ (each f (drop (i + 1) xs)) w t)
-
-pub at_all : {A : Type 0} (P : A → Type 0) (xs : List A) (i : ℕ) (a : A) → i < length xs → All P xs → P (get_or xs i a)
-at_all P [] i a h v = absurd (omega arith)
-at_all P (x ∷ xs) zero a h v = v.0
-at_all P (x ∷ xs) (suc i) a h v = at_all P xs i a (omega arith) v.1
+      rw whole (short_first (each f (drop (i + 1) xs)) (subst (λ x. RanOut x w v) (sym (each_more xs i a h)) (short_then p q)))
 
 placed : (d : List ℕ) (k : ℕ) (x : List ℕ) → k + length x ≤ length d → written d k x ≡ take k d ++ (x ++ drop (k + length x) d)
 placed d k [] h = sym (ap (λ n. take k d ++ drop n d) (add-zero k) ∙ take-append-drop k d)

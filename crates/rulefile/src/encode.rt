@@ -1,5 +1,5 @@
-// What can be written into a rule file.
-ghost use Rattle.std.specs.Prelude.{◌≡◌, ℕ, ◌≤◌, List, length};
+// What can be written into a rule file, alone, in a row or counted.
+ghost use Rattle.std.specs.Prelude.{ℕ, ◌≤◌, List, length};
 ghost use Rattle.terms.specs.Lists.{All};
 ghost use Rattle.rules.specs.Format.{each, counted};
 ghost use Rattle.rulefile.specs.Written.{Writes};
@@ -15,35 +15,28 @@ pub trait Encode {
 
     fn encode(&self, writer: &mut Writer<'_>) -> Result<(), WriteRefusal>
         requires { fit self.now }
-        ensures same { writer.new.dst.ghost_name ≡ writer.old.dst.ghost_name }
-        ensures wrote { Writes (encoding self.now) writer.old result writer.new };
+        ensures { Writes (encoding self.now) writer.old result writer.new };
 }
 
-/// Parts in a row.
-pub(crate) fn encode_each<E: Encode>(
-    parts: &[E],
-    writer: &mut Writer<'_>,
-) -> Result<(), WriteRefusal>
-    requires { All E.Encode.fit parts.now }
-    ensures same { writer.new.dst.ghost_name ≡ writer.old.dst.ghost_name }
-    ensures wrote { Writes (each E.Encode.encoding parts.now) writer.old result writer.new }
-{
-    for part in parts {
-        part.encode(writer)?;
+impl Writer<'_> {
+    /// Parts in a row.
+    pub(crate) fn each<E: Encode>(&mut self, parts: &[E]) -> Result<(), WriteRefusal>
+        requires { All E.Encode.fit parts.now }
+        ensures { Writes (each E.Encode.encoding parts.now) self.old result self.new }
+    {
+        for part in parts {
+            part.encode(self)?;
+        }
+        Ok(())
     }
-    Ok(())
-}
 
-/// How many parts there are, and then each.
-pub(crate) fn encode_counted<E: Encode>(
-    parts: &[E],
-    writer: &mut Writer<'_>,
-) -> Result<(), WriteRefusal>
-    requires few { length parts.now ≤ 32 }
-    requires fits { All E.Encode.fit parts.now }
-    ensures same { writer.new.dst.ghost_name ≡ writer.old.dst.ghost_name }
-    ensures wrote { Writes (counted E.Encode.encoding parts.now) writer.old result writer.new }
-{
-    writer.number(parts.len() as u32)?;
-    encode_each(parts, writer)
+    /// How many parts there are, and then each.
+    pub(crate) fn counted<E: Encode>(&mut self, parts: &[E]) -> Result<(), WriteRefusal>
+        requires few { length parts.now ≤ 32 }
+        requires fits { All E.Encode.fit parts.now }
+        ensures { Writes (counted E.Encode.encoding parts.now) self.old result self.new }
+    {
+        self.number(parts.len() as u32)?;
+        self.each(parts)
+    }
 }

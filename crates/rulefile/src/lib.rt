@@ -35,6 +35,6 @@ pub fn load_and_write(heap: Global, bytes: &[u8]) -> Result<(Rules, Vec<u8>), Lo
 {
     let rules = load(heap, bytes)?;
     let mut copy = vec![in heap; 0; rules.file_len()]?;
-    let _ = rules.write(&mut copy);
+    rules.write(&mut copy).unwrap();
     Ok((rules, copy))
 }

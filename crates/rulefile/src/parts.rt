@@ -1,14 +1,14 @@
 // How numbers, terms, primitives, body items and rules are written.
-ghost use Rattle.std.specs.Prelude.{◌≡◌, ℕ, ◌≤◌, vec_len};
+ghost use Rattle.std.specs.Prelude.{ℕ, ◌≤◌, vec_len};
 ghost use Rattle.rules.specs.Format.{number_bytes, term_bytes, primitive_bytes, goal_bytes, heads_bytes, rule_bytes};
 ghost use Rattle.rules.specs.Views.{goal_of, rule_of};
 ghost use Rattle.rulefile.specs.Fits.{TermFits, PrimitiveFits, ItemFits, RuleFits};
 ghost use Rattle.rulefile.specs.Written.{Writes};
 
-use crate::encode::{Encode, encode_counted, encode_each};
+use crate::encode::Encode;
 use crate::refusal::WriteRefusal;
 use crate::writer::Writer;
-use rules::{Item, Rule};
+use rules::{ADD_KIND, Item, PrimitiveKind, Rule, TermKind};
 use terms::{Primitive, Term};
 
 impl Encode for u8 {
@@ -29,12 +29,12 @@ impl Encode for Term {
     fn encode(&self, writer: &mut Writer<'_>) -> Result<(), WriteRefusal> {
         match *self {
             Term::Value(value) => {
-                writer.number(0)?;
+                writer.number(TermKind::Value as u32)?;
                 writer.value(value)
             }
             Term::Slot(slot) => {
-                writer.number(1)?;
-                writer.number(u32::from(slot))
+                writer.number(TermKind::Slot as u32)?;
+                slot.encode(writer)
             }
         }
     }
@@ -48,17 +48,17 @@ impl Encode for Primitive<Term> {
     fn encode(&self, writer: &mut Writer<'_>) -> Result<(), WriteRefusal> {
         match *self {
             Primitive::Same(left, right) => {
-                writer.number(0)?;
+                writer.number(PrimitiveKind::Same as u32)?;
                 left.encode(writer)?;
                 right.encode(writer)
             }
             Primitive::Least(term, bound) => {
-                writer.number(1)?;
+                writer.number(PrimitiveKind::Least as u32)?;
                 term.encode(writer)?;
                 writer.value(bound)
             }
             Primitive::Most(term, bound) => {
-                writer.number(2)?;
+                writer.number(PrimitiveKind::Most as u32)?;
                 term.encode(writer)?;
                 writer.value(bound)
             }
@@ -75,9 +75,9 @@ impl Encode for Item {
         match self {
             Item::Tell(primitive) => primitive.encode(writer),
             Item::Add { symbol, arguments } => {
-                writer.number(3)?;
-                writer.number(u32::from(*symbol))?;
-                encode_each(arguments, writer)
+                writer.number(ADD_KIND)?;
+                symbol.encode(writer)?;
+                writer.each(arguments)
             }
         }
     }
@@ -90,19 +90,18 @@ impl Encode for Rule {
 
     fn encode(&self, writer: &mut Writer<'_>) -> Result<(), WriteRefusal> {
         encode_heads(self, writer)?;
-        encode_counted(&self.guards, writer)?;
-        writer.number(u32::from(self.fresh))?;
-        encode_counted(&self.body, writer)
+        writer.counted(&self.guards)?;
+        self.fresh.encode(writer)?;
+        writer.counted(&self.body)
     }
 }
 
 /// How many heads are kept and how many removed, and the symbols of all.
 fn encode_heads(rule: &Rule, writer: &mut Writer<'_>) -> Result<(), WriteRefusal>
     requires { vec_len rule.now.heads ≤ 32 }
-    ensures same { writer.new.dst.ghost_name ≡ writer.old.dst.ghost_name }
-    ensures wrote { Writes (heads_bytes (rule_of rule.now)) writer.old result writer.new }
+    ensures { Writes (heads_bytes (rule_of rule.now)) writer.old result writer.new }
 {
     writer.number(rule.kept_heads().len() as u32)?;
     writer.number(rule.removed_heads().len() as u32)?;
-    encode_each(&rule.heads, writer)
+    writer.each(&rule.heads)
 }

@@ -5,7 +5,6 @@ ghost use Rattle.rulefile.specs.Outputs.{WrittenOut};
 ghost use Rattle.rulefile.specs.Rulebooks.{rules_book};
 ghost use Rattle.rulefile.specs.Written.{Writes};
 
-use crate::encode::{encode_counted, encode_each};
 use crate::loaded::Rules;
 use crate::refusal::WriteRefusal;
 use crate::writer::Writer;
@@ -33,11 +32,10 @@ impl Rules {
 
     /// The four bytes, each below 128 and so a number of one byte, the argument counts and the rules.
     fn encode_file(&self, writer: &mut Writer<'_>) -> Result<(), WriteRefusal>
-        ensures same { writer.new.dst.ghost_name ≡ writer.old.dst.ghost_name }
-        ensures wrote { Writes (file_bytes (rules_book self.now)) writer.old result writer.new }
+        ensures { Writes (file_bytes (rules_book self.now)) writer.old result writer.new }
     {
-        encode_each(&MARK, writer)?;
-        encode_counted(&self.arities, writer)?;
-        encode_counted(&self.rules, writer)
+        writer.each(&MARK)?;
+        writer.counted(&self.arities)?;
+        writer.counted(&self.rules)
     }
 }
