@@ -1,3 +1,4 @@
 pub mod Separations
 pub mod RuleTexts
 pub mod ListingTexts
+pub mod Steps

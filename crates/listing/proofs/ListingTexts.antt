@@ -1,5 +1,5 @@
 -- The text of a rule file, symbol by symbol and rule by rule.
-use Rattle.std.proofs.Common.{◌≡◌, ℕ, zero, suc, ◌+◌, ◌<◌, ◌≤◌, List, [], ◌∷◌, ◌++◌, map, length, get_or, take, vec_items, vec_len, codes, decimal, sym, refl, ap, ◌∙◌, subst, append_assoc, append-nil, arith, take-append-drop}
+use Rattle.std.proofs.Common.{◌≡◌, ℕ, zero, suc, ◌+◌, ◌<◌, ◌≤◌, List, [], ◌∷◌, ◌++◌, map, length, get_or, take, vec_items, vec_len, codes, decimal, sym, refl, ap, ◌∙◌, append_assoc, append-nil, arith, take-append-drop}
 use Rattle.std.proofs.lemmas.List.{take_more, map_push, length-take-le, length-map}
 use Rattle.terms.specs.Lists.{All}
 use Rattle.rules.specs.Books.{Rule, Book}
@@ -50,15 +50,11 @@ rules_more arities rs i r h e =
     let number : i + 1 ≡ 1 + length (map rule_of (take i rs)) = omega arith in
     ap (λ n. rules_text arities 1 (map rule_of (take i rs)) ++ rule_text arities n (rule_of r)) number ∙ sym (rules_text_push arities 1 (map rule_of (take i rs)) (rule_of r)) ∙ ap (rules_text arities 1) (sym more)
 
--- the rules of a valid file have few heads
-pub few_heads : (arities : List ℕ) (rs : List code.Rule) → All (RuleValid arities) (map rule_of rs) → All (λ r. vec_len r.heads ≤ 3) rs
-few_heads arities [] v = tt
-few_heads arities (r ∷ rs) v = (omega (arith, v.0.few_heads, ap length (take-append-drop r.kept (vec_items r.heads)), r.heads.ok.0), few_heads arities rs v.1)
-
-pub heads_at : (rs : List code.Rule) (i : ℕ) (r : code.Rule) → i < length rs → r ≡ get_or rs i r → All (λ x. vec_len x.heads ≤ 3) rs → vec_len r.heads ≤ 3
-heads_at [] i r h e v = absurd (omega arith)
-heads_at (x ∷ rs) zero r h e v = subst (λ y. vec_len y.heads ≤ 3) (sym e) v.0
-heads_at (x ∷ rs) (suc i) r h e v = heads_at rs i r (omega arith) e v.1
+-- a rule of a valid file has few heads
+pub few_heads : (arities : List ℕ) (rs : List code.Rule) (i : ℕ) (r : code.Rule) → i < length rs → r ≡ get_or rs i r → All (RuleValid arities) (map rule_of rs) → vec_len r.heads ≤ 3
+few_heads arities [] i r h e v = absurd (omega arith)
+few_heads arities (x ∷ rs) zero r h e v = rw e (omega (arith, v.0.few_heads, ap length (take-append-drop x.kept (vec_items x.heads)), x.heads.ok.0))
+few_heads arities (x ∷ rs) (suc i) r h e v = few_heads arities rs i r (omega arith) e v.1
 
 pub book_text_is : (b : Book) (arities : List ℕ) (rs : List Rule) → arities ≡ b.arities → rs ≡ b.rules →
     codes ":- use_module(library(chr)).\n:- chr_constraint " ++ symbols_text arities ++ codes ".\n" ++ rules_text arities 1 rs ≡ book_text b

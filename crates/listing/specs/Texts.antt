@@ -26,17 +26,19 @@ term_text (Slot k) = codes "X" ++ decimal k
 abbrev pub both_text : List ℕ → Term → Term → List ℕ
 both_text sign a b = term_text a ++ sign ++ term_text b
 
+-- a primitive, with the sign that says that two terms are the same
+abbrev pub primitive_text : List ℕ → Primitive Term → List ℕ
+primitive_text same (Same a b) = both_text same a b
+primitive_text same (Least a n) = both_text (codes " >= ") a (Value n)
+primitive_text same (Most a n) = both_text (codes " =< ") a (Value n)
+
 -- a guard asks
 abbrev pub guard_text : Primitive Term → List ℕ
-guard_text (Same a b) = both_text (codes " == ") a b
-guard_text (Least a n) = both_text (codes " >= ") a (Value n)
-guard_text (Most a n) = both_text (codes " =< ") a (Value n)
+guard_text p = primitive_text (codes " == ") p
 
 -- a body tells
 abbrev pub told_text : Primitive Term → List ℕ
-told_text (Same a b) = both_text (codes " = ") a b
-told_text (Least a n) = both_text (codes " >= ") a (Value n)
-told_text (Most a n) = both_text (codes " =< ") a (Value n)
+told_text p = primitive_text (codes " = ") p
 
 -- arguments stand in parentheses, where there are any
 abbrev pub arguments_text : List Term → List ℕ

@@ -1,19 +1,15 @@
 // Loaded rules as CHR source text, which a Prolog system with CHR can read.
 #![tactic(auto)]
 
-ghost use Rattle.std.specs.Prelude.{◌≤◌, map, Some, vec_len};
-ghost use Rattle.std.specs.Fmt.{WritesOnOk};
-ghost use Rattle.terms.specs.Lists.{All};
-ghost use Rattle.rules.specs.Views.{rule_of};
+ghost use Rattle.std.specs.Prelude.{Some};
 ghost use Rattle.rulefile.specs.Rulebooks.{rules_book};
-ghost use Rattle.listing.specs.Listings.{symbols_text, rules_text, book_text};
+ghost use Rattle.listing.specs.Listings.{symbols_text, book_text};
 
 mod rule;
 mod source;
 
-use rule::show_rule;
+use rule::RuleText;
 use rulefile::Rules;
-use rules::{Rule, Signature};
 use source::show_comma;
 use std::fmt;
 
@@ -28,35 +24,35 @@ impl fmt::Display for Listing<'_> {
 
     fn fmt<W: fmt::Write>(&self, f: &mut fmt::Formatter<W>) -> fmt::Result {
         let signature = self.rules.signature();
-        f.write_str(":- use_module(library(chr)).\n:- chr_constraint ")?;
-        show_symbols(signature.arities, f)?;
-        f.write_str(".\n")?;
-        show_rules(signature, self.rules.rules(), f)
+        write!(
+            f,
+            ":- use_module(library(chr)).\n:- chr_constraint {}.\n",
+            Symbols(signature.arities)
+        )?;
+        for (k, rule) in self.rules.rules().iter().enumerate() {
+            let text = RuleText {
+                signature,
+                number: k + 1,
+                rule,
+            };
+            write!(f, "{text}")?;
+        }
+        Ok(())
     }
 }
 
-/// The symbols, each with its argument count.
-fn show_symbols<W: fmt::Write>(arities: &[u8], f: &mut fmt::Formatter<W>) -> fmt::Result
-    ensures { WritesOnOk W.Write.write_str_gives f.old result (symbols_text arities.now) f.new }
-{
-    for (k, count) in arities.iter().enumerate() {
-        show_comma(k, f)?;
-        write!(f, "c{k}/{count}")?;
-    }
-    Ok(())
-}
+/// The symbols of a file, each with its argument count.
+#[derive(Clone, Copy)]
+struct Symbols<'a>(&'a [u8]);
 
-/// The rules, numbered from 1.
-fn show_rules<W: fmt::Write>(
-    signature: Signature<'_>,
-    rules: &[Rule],
-    f: &mut fmt::Formatter<W>,
-) -> fmt::Result
-    requires { All (λ r. vec_len r.heads ≤ 3) rules.now }
-    ensures { WritesOnOk W.Write.write_str_gives f.old result (rules_text signature.entry.arities.now 1 (map rule_of rules.now)) f.new }
-{
-    for (k, rule) in rules.iter().enumerate() {
-        show_rule(signature, k + 1, rule, f)?;
+impl fmt::Display for Symbols<'_> {
+    ghost output = { λ s. Some (symbols_text s.0.now) };
+
+    fn fmt<W: fmt::Write>(&self, f: &mut fmt::Formatter<W>) -> fmt::Result {
+        for (k, count) in self.0.iter().enumerate() {
+            show_comma(k, f)?;
+            write!(f, "c{k}/{count}")?;
+        }
+        Ok(())
     }
-    Ok(())
 }

@@ -1,13 +1,38 @@
 // A whole rule as text.
-ghost use Rattle.std.specs.Prelude.{◌≤◌, map, length, vec_len};
+ghost use Rattle.std.specs.Prelude.{◌≤◌, Some, map, length, vec_len};
 ghost use Rattle.std.specs.Fmt.{WritesOnOk};
 ghost use Rattle.rules.specs.Views.{goal_of, rule_of};
 ghost use Rattle.listing.specs.Texts.{constraint_text, slots_from, heads_text, sides_text, guards_text, body_text, rule_text};
 
-use crate::source::{show_comma, show_constraint, show_separated};
+use crate::source::{Constraint, Separated, show_comma};
 use rules::{Item, Rule, Signature};
 use std::fmt;
 use terms::{Primitive, Term};
+
+/// Heads whose slots are numbered from `first` on.
+#[derive(Clone, Copy)]
+struct Heads<'a> {
+    signature: Signature<'a>,
+    symbols: &'a [u8],
+    first: u8,
+    ghost few: { length symbols.now ≤ 3 },
+    ghost low: { first ≤ 12 },
+}
+
+impl fmt::Display for Heads<'_> {
+    ghost output = { λ h. Some (heads_text h.signature.arities.now h.first h.symbols.now) };
+
+    fn fmt<W: fmt::Write>(&self, f: &mut fmt::Formatter<W>) -> fmt::Result {
+        let mut slot = self.first;
+        for (i, symbol) in self.symbols.iter().enumerate() {
+            show_comma(i, f)?;
+            let count = self.signature.arity(*symbol);
+            show_head(*symbol, slot, count, f)?;
+            slot += count;
+        }
+        Ok(())
+    }
+}
 
 /// A head with `count` slots from `first` on.
 fn show_head<W: fmt::Write>(
@@ -25,87 +50,86 @@ fn show_head<W: fmt::Write>(
         Term::Slot(first + 2),
         Term::Slot(first + 3),
     ];
-    show_constraint(symbol, &slots[0..count as usize], f)
-}
-
-/// Heads whose slots are numbered from `first` on.
-fn show_heads<W: fmt::Write>(
-    signature: Signature<'_>,
-    heads: &[u8],
-    first: u8,
-    f: &mut fmt::Formatter<W>,
-) -> fmt::Result
-    requires { (length heads.now ≤ 3) × (first ≤ 12) }
-    ensures { WritesOnOk W.Write.write_str_gives f.old result (heads_text signature.entry.arities.now first heads.now) f.new }
-{
-    let mut slot = first;
-    for (i, symbol) in heads.iter().enumerate() {
-        show_comma(i, f)?;
-        let count = signature.arity(*symbol);
-        show_head(*symbol, slot, count, f)?;
-        slot += count;
-    }
-    Ok(())
-}
-
-/// The heads of a rule, and the arrow after them.
-fn show_sides<W: fmt::Write>(
-    signature: Signature<'_>,
-    kept: &[u8],
-    removed: &[u8],
-    f: &mut fmt::Formatter<W>,
-) -> fmt::Result
-    requires { (length kept.now ≤ 3) × (length removed.now ≤ 3) }
-    ensures { WritesOnOk W.Write.write_str_gives f.old result (sides_text signature.entry.arities.now kept.now removed.now) f.new }
-{
-    if removed.is_empty() {
-        show_heads(signature, kept, 0, f)?;
-        return f.write_str(" ==> ");
-    }
-    if kept.is_empty() {
-        show_heads(signature, removed, 0, f)?;
-        return f.write_str(" <=> ");
-    }
-    show_heads(signature, kept, 0, f)?;
-    f.write_str(" \\ ")?;
-    show_heads(signature, removed, signature.slots(kept), f)?;
-    f.write_str(" <=> ")
+    let arguments = &slots[..count as usize];
+    write!(f, "{}", Constraint { symbol, arguments })
 }
 
 /// The guards and the bar after them, where there are any.
-fn show_guards<W: fmt::Write>(guards: &[Primitive<Term>], f: &mut fmt::Formatter<W>) -> fmt::Result
-    ensures { WritesOnOk W.Write.write_str_gives f.old result (guards_text guards.now) f.new }
-{
-    if guards.is_empty() {
-        return Ok(());
+#[derive(Clone, Copy)]
+struct Guards<'a>(&'a [Primitive<Term>]);
+
+impl fmt::Display for Guards<'_> {
+    ghost output = { λ g. Some (guards_text g.0.now) };
+
+    fn fmt<W: fmt::Write>(&self, f: &mut fmt::Formatter<W>) -> fmt::Result {
+        if self.0.is_empty() {
+            return Ok(());
+        }
+        write!(f, "{} | ", Separated(self.0))
     }
-    show_separated(guards, f)?;
-    f.write_str(" | ")
 }
 
 /// The body, or `true` where there is none.
-fn show_body<W: fmt::Write>(body: &[Item], f: &mut fmt::Formatter<W>) -> fmt::Result
-    ensures { WritesOnOk W.Write.write_str_gives f.old result (body_text (map goal_of body.now)) f.new }
-{
-    if body.is_empty() {
-        return f.write_str("true");
+#[derive(Clone, Copy)]
+struct Body<'a>(&'a [Item]);
+
+impl fmt::Display for Body<'_> {
+    ghost output = { λ b. Some (body_text (map goal_of b.0.now)) };
+
+    fn fmt<W: fmt::Write>(&self, f: &mut fmt::Formatter<W>) -> fmt::Result {
+        if self.0.is_empty() {
+            return f.write_str("true");
+        }
+        write!(f, "{}", Separated(self.0))
     }
-    show_separated(body, f)
 }
 
-/// A rule by its number.
-pub(crate) fn show_rule<W: fmt::Write>(
-    signature: Signature<'_>,
-    number: usize,
-    rule: &Rule,
-    f: &mut fmt::Formatter<W>,
-) -> fmt::Result
-    requires { vec_len rule.now.heads ≤ 3 }
-    ensures { WritesOnOk W.Write.write_str_gives f.old result (rule_text signature.entry.arities.now number (rule_of rule.now)) f.new }
-{
-    write!(f, "r{number} @ ")?;
-    show_sides(signature, rule.kept_heads(), rule.removed_heads(), f)?;
-    show_guards(&rule.guards, f)?;
-    show_body(&rule.body, f)?;
-    f.write_str(".\n")
+/// A rule by its number, over the symbols of its file.
+#[derive(Clone, Copy)]
+pub struct RuleText<'a> {
+    pub signature: Signature<'a>,
+    pub number: usize,
+    pub rule: &'a Rule,
+    ghost few: { vec_len rule.now.heads ≤ 3 },
+}
+
+impl RuleText<'_> {
+    /// The heads, and the arrow after them.
+    fn show_sides<W: fmt::Write>(&self, f: &mut fmt::Formatter<W>) -> fmt::Result
+        ensures { WritesOnOk W.Write.write_str_gives f.old result (sides_text self.now.signature.arities.now (rule_of self.now.rule.now).kept (rule_of self.now.rule.now).removed) f.new }
+    {
+        let signature = self.signature;
+        let kept = Heads {
+            signature,
+            symbols: self.rule.kept_heads(),
+            first: 0,
+        };
+        let removed = Heads {
+            signature,
+            symbols: self.rule.removed_heads(),
+            first: signature.slots(kept.symbols),
+        };
+        if removed.symbols.is_empty() {
+            write!(f, "{kept} ==> ")
+        } else if kept.symbols.is_empty() {
+            write!(f, "{removed} <=> ")
+        } else {
+            write!(f, "{kept} \\ {removed} <=> ")
+        }
+    }
+}
+
+impl fmt::Display for RuleText<'_> {
+    ghost output = { λ t. Some (rule_text t.signature.arities.now t.number (rule_of t.rule.now)) };
+
+    fn fmt<W: fmt::Write>(&self, f: &mut fmt::Formatter<W>) -> fmt::Result {
+        write!(f, "r{} @ ", self.number)?;
+        self.show_sides(f)?;
+        write!(
+            f,
+            "{}{}.\n",
+            Guards(&self.rule.guards),
+            Body(&self.rule.body)
+        )
+    }
 }

@@ -1,14 +1,14 @@
 // The parts of a rule as text.
-ghost use Rattle.std.specs.Prelude.{ℕ, List, map};
+ghost use Rattle.std.specs.Prelude.{ℕ, List, Some, map, codes};
 ghost use Rattle.std.specs.Fmt.{WritesOnOk};
 ghost use Rattle.rules.specs.Views.{goal_of};
-ghost use Rattle.listing.specs.Texts.{separated, comma_before, term_text, both_text, guard_text, told_text, arguments_text, constraint_text, goal_text};
+ghost use Rattle.listing.specs.Texts.{separated, comma_before, term_text, primitive_text, guard_text, constraint_text, goal_text};
 
 use rules::Item;
 use std::fmt;
 use terms::{Primitive, Term};
 
-/// What has a text in the source of a rule.
+/// What has a text in the source of a rule: a `Display` for the types of other crates.
 pub trait Source {
     ghost text: { Self → List ℕ };
 
@@ -16,18 +16,32 @@ pub trait Source {
         ensures { WritesOnOk W.Write.write_str_gives f.old result (text self.now) f.new };
 }
 
-/// Parts with a comma and a space between each two.
-pub(crate) fn show_separated<S: Source, W: fmt::Write>(
-    parts: &[S],
-    f: &mut fmt::Formatter<W>,
-) -> fmt::Result
-    ensures { WritesOnOk W.Write.write_str_gives f.old result (separated (map S.Source.text parts.now)) f.new }
-{
-    for (i, part) in parts.iter().enumerate() {
-        show_comma(i, f)?;
-        part.show(f)?;
+/// A part, shown by its text.
+#[derive(Clone, Copy)]
+pub struct Shown<'a, S>(pub &'a S);
+
+impl<S: Source> fmt::Display for Shown<'_, S> {
+    ghost output = { λ s. Some (S.Source.text s.0.now) };
+
+    fn fmt<W: fmt::Write>(&self, f: &mut fmt::Formatter<W>) -> fmt::Result {
+        self.0.show(f)
     }
-    Ok(())
+}
+
+/// Parts with a comma and a space between each two.
+#[derive(Clone, Copy)]
+pub struct Separated<'a, S>(pub &'a [S]);
+
+impl<S: Source> fmt::Display for Separated<'_, S> {
+    ghost output = { λ s. Some (separated (map S.Source.text s.0.now)) };
+
+    fn fmt<W: fmt::Write>(&self, f: &mut fmt::Formatter<W>) -> fmt::Result {
+        for (i, part) in self.0.iter().enumerate() {
+            show_comma(i, f)?;
+            part.show(f)?;
+        }
+        Ok(())
+    }
 }
 
 /// A comma and a space before every part but the first, the part 0.
@@ -48,65 +62,46 @@ impl Source for Term {
     }
 }
 
-/// Two terms with a sign between them.
-fn show_both<W: fmt::Write>(
-    left: Term,
-    sign: &str,
-    right: Term,
+/// A primitive, with the sign that says that two terms are the same.
+fn show_primitive<W: fmt::Write>(
+    primitive: &Primitive<Term>,
+    same: &str,
     f: &mut fmt::Formatter<W>,
 ) -> fmt::Result
-    ensures { WritesOnOk W.Write.write_str_gives f.old result (both_text sign.now left right) f.new }
+    ensures { WritesOnOk W.Write.write_str_gives f.old result (primitive_text same.now primitive.now) f.new }
 {
-    left.show(f)?;
-    f.write_str(sign)?;
-    right.show(f)
+    match primitive {
+        Primitive::Same(left, right) => write!(f, "{}{same}{}", Shown(left), Shown(right)),
+        Primitive::Least(term, bound) => write!(f, "{} >= {bound}", Shown(term)),
+        Primitive::Most(term, bound) => write!(f, "{} =< {bound}", Shown(term)),
+    }
 }
 
 impl Source for Primitive<Term> {
     ghost text = { guard_text };
 
     fn show<W: fmt::Write>(&self, f: &mut fmt::Formatter<W>) -> fmt::Result {
-        match *self {
-            Primitive::Same(left, right) => show_both(left, " == ", right, f),
-            Primitive::Least(term, bound) => show_both(term, " >= ", Term::Value(bound), f),
-            Primitive::Most(term, bound) => show_both(term, " =< ", Term::Value(bound), f),
+        show_primitive(self, " == ", f)
+    }
+}
+
+/// A constraint: its symbol, and its arguments in parentheses, where there are any.
+#[derive(Clone, Copy)]
+pub struct Constraint<'a> {
+    pub symbol: u8,
+    pub arguments: &'a [Term],
+}
+
+impl fmt::Display for Constraint<'_> {
+    ghost output = { λ c. Some (constraint_text c.symbol c.arguments.now) };
+
+    fn fmt<W: fmt::Write>(&self, f: &mut fmt::Formatter<W>) -> fmt::Result {
+        if self.arguments.is_empty() {
+            write!(f, "c{}", self.symbol)
+        } else {
+            write!(f, "c{}({})", self.symbol, Separated(self.arguments))
         }
     }
-}
-
-/// A primitive that a body tells.
-fn show_told<W: fmt::Write>(primitive: &Primitive<Term>, f: &mut fmt::Formatter<W>) -> fmt::Result
-    ensures { WritesOnOk W.Write.write_str_gives f.old result (told_text primitive.now) f.new }
-{
-    match *primitive {
-        Primitive::Same(left, right) => show_both(left, " = ", right, f),
-        Primitive::Least(term, bound) => show_both(term, " >= ", Term::Value(bound), f),
-        Primitive::Most(term, bound) => show_both(term, " =< ", Term::Value(bound), f),
-    }
-}
-
-/// Arguments in parentheses, where there are any.
-fn show_arguments<W: fmt::Write>(arguments: &[Term], f: &mut fmt::Formatter<W>) -> fmt::Result
-    ensures { WritesOnOk W.Write.write_str_gives f.old result (arguments_text arguments.now) f.new }
-{
-    if arguments.is_empty() {
-        return Ok(());
-    }
-    f.write_str("(")?;
-    show_separated(arguments, f)?;
-    f.write_str(")")
-}
-
-/// A constraint: its symbol and its arguments.
-pub(crate) fn show_constraint<W: fmt::Write>(
-    symbol: u8,
-    arguments: &[Term],
-    f: &mut fmt::Formatter<W>,
-) -> fmt::Result
-    ensures { WritesOnOk W.Write.write_str_gives f.old result (constraint_text symbol arguments.now) f.new }
-{
-    write!(f, "c{symbol}")?;
-    show_arguments(arguments, f)
 }
 
 impl Source for Item {
@@ -114,8 +109,14 @@ impl Source for Item {
 
     fn show<W: fmt::Write>(&self, f: &mut fmt::Formatter<W>) -> fmt::Result {
         match self {
-            Item::Tell(primitive) => show_told(primitive, f),
-            Item::Add { symbol, arguments } => show_constraint(*symbol, arguments, f),
+            Item::Tell(primitive) => show_primitive(primitive, " = ", f),
+            Item::Add { symbol, arguments } => {
+                let constraint = Constraint {
+                    symbol: *symbol,
+                    arguments,
+                };
+                write!(f, "{constraint}")
+            }
         }
     }
 }
