@@ -19,7 +19,7 @@ fn list(rt: &HostRuntime, bytes: &[u8], rules: &Rules, copy: &[u8]) -> anyhow::R
     let listing = Listing { rules };
     print!(rt; "{listing}")?;
     let size = bytes.len();
-    let symbols = rules.signature().arities.len();
+    let symbols = rules.signature().symbols();
     let count = rules.rules().len();
     let how = if copy == bytes {
         "the same"
@@ -30,17 +30,11 @@ fn list(rt: &HostRuntime, bytes: &[u8], rules: &Rules, copy: &[u8]) -> anyhow::R
     Ok(())
 }
 
-fn run(rt: &HostRuntime) -> anyhow::Result<()> {
-    let bytes = file_bytes(rt)?;
-    match load_and_write(rt.alloc(), &bytes) {
-        Ok((rules, copy)) => list(rt, &bytes, &rules, &copy),
-        Err(refusal) => {
-            println!(rt; "refused {refusal}")?;
-            Ok(())
-        }
-    }
-}
-
 fn main(rt: HostRuntime) -> anyhow::Result<()> {
-    run(&rt)
+    let bytes = file_bytes(&rt)?;
+    match load_and_write(rt.alloc(), &bytes) {
+        Ok((rules, copy)) => list(&rt, &bytes, &rules, &copy)?,
+        Err(refusal) => println!(rt; "refused {refusal}")?,
+    }
+    Ok(())
 }

@@ -3,16 +3,14 @@
 
 use rulefile::load_and_write;
 use std::alloc::Global;
+use std::iter;
 
 /// One word of a line: a byte, or `BYTExCOUNT` for several.
 fn push_run(bytes: &mut Vec<u8>, word: &str) -> anyhow::Result<()> {
-    let (byte, count) = match word.split_once("x") {
-        Some((byte, count)) => (byte.parse::<u8>()?, count.parse::<u16>()?),
-        None => (word.parse::<u8>()?, 1),
-    };
-    for _ in 0..count {
-        bytes.push(byte)?;
-    }
+    let (byte, count) = word.split_once("x").unwrap_or((word, "1"));
+    let byte = byte.parse::<u8>()?;
+    let count = count.parse::<u16>()?;
+    bytes.extend(iter::repeat_n(byte, usize::from(count)))?;
     Ok(())
 }
 
@@ -29,7 +27,7 @@ fn file_of(heap: Global, line: &str) -> anyhow::Result<Vec<u8>> {
 fn try_file(rt: &HostRuntime, bytes: &[u8]) -> anyhow::Result<()> {
     match load_and_write(rt.alloc(), bytes) {
         Ok((rules, copy)) => {
-            let symbols = rules.signature().arities.len();
+            let symbols = rules.signature().symbols();
             let count = rules.rules().len();
             let how = if copy.as_slice() == bytes {
                 "same"
@@ -37,27 +35,20 @@ fn try_file(rt: &HostRuntime, bytes: &[u8]) -> anyhow::Result<()> {
                 "otherwise"
             };
             println!(rt; "accepted {symbols} {count} {how}")?;
-            Ok(())
         }
-        Err(refusal) => {
-            println!(rt; "refused {refusal}")?;
-            Ok(())
-        }
-    }
-}
-
-/// Every line that is no comment is a file.
-fn run(rt: &HostRuntime) -> anyhow::Result<()> {
-    for line in rt.lines(rt.alloc()) {
-        let line = line?;
-        if !line.starts_with("#") {
-            let bytes = file_of(rt.alloc(), line.as_str())?;
-            try_file(rt, &bytes)?;
-        }
+        Err(refusal) => println!(rt; "refused {refusal}")?,
     }
     Ok(())
 }
 
+/// Every line that is no comment is a file.
 fn main(rt: HostRuntime) -> anyhow::Result<()> {
-    run(&rt)
+    for line in rt.lines(rt.alloc()) {
+        let line = line?;
+        if !line.starts_with("#") {
+            let bytes = file_of(rt.alloc(), line.as_str())?;
+            try_file(&rt, &bytes)?;
+        }
+    }
+    Ok(())
 }

@@ -22,14 +22,9 @@ mod tests {
 
     #[test]
     fn a_short_buffer_is_refused_untouched(rt: HostRuntime) -> Result<(), Fail> {
-        let Ok(rules) = load(rt.alloc(), &SMALL) else {
-            return Err(Fail::new("not loaded"));
-        };
+        let rules = load(rt.alloc(), &SMALL)?;
         let mut out = [9u8; 6];
-        match rules.write(&mut out) {
-            Ok(_) => return Err(Fail::new("written")),
-            Err(WriteRefusal::ShortBuffer) => {}
-        }
+        assert_eq!(rt; rules.write(&mut out), Err(WriteRefusal::ShortBuffer));
         assert_eq!(rt; WriteRefusal::ShortBuffer.number(), 31);
         assert!(rt; out == [9, 9, 9, 9, 9, 9]);
         Ok(())
@@ -37,23 +32,16 @@ mod tests {
 
     #[test]
     fn bytes_after_the_file_are_kept(rt: HostRuntime) -> Result<(), Fail> {
-        let Ok(rules) = load(rt.alloc(), &SMALL) else {
-            return Err(Fail::new("not loaded"));
-        };
+        let rules = load(rt.alloc(), &SMALL)?;
         let mut out = [9u8; 9];
-        match rules.write(&mut out) {
-            Ok(size) => assert_eq!(rt; size, 7),
-            Err(_) => return Err(Fail::new("refused")),
-        }
+        assert_eq!(rt; rules.write(&mut out), Ok(7));
         assert!(rt; out == [67, 72, 82, 49, 1, 0, 0, 9, 9]);
         Ok(())
     }
 
     #[test]
     fn every_form_of_a_rule_is_listed(rt: HostRuntime) -> Result<(), Fail> {
-        let Ok(rules) = load(rt.alloc(), &FORMS) else {
-            return Err(Fail::new("not loaded"));
-        };
+        let rules = load(rt.alloc(), &FORMS)?;
         let listing = Listing { rules: &rules };
         let text = format!(in rt.alloc(); "{listing}")?;
         assert_eq!(rt;
@@ -65,13 +53,11 @@ mod tests {
 
     #[test]
     fn a_refusal_is_shown_by_number_and_place(rt: HostRuntime) -> Result<(), Fail> {
-        match load(rt.alloc(), &[67, 72, 82, 49, 128, 0]) {
-            Ok(_) => Err(Fail::new("loaded")),
-            Err(refusal) => {
-                let text = format!(in rt.alloc(); "{refusal}")?;
-                assert_eq!(rt; text.as_str(), "4 4");
-                Ok(())
-            }
-        }
+        let Err(refusal) = load(rt.alloc(), &[67, 72, 82, 49, 128, 0]) else {
+            return Err(Fail::new("loaded"));
+        };
+        let text = format!(in rt.alloc(); "{refusal}")?;
+        assert_eq!(rt; text.as_str(), "4 4");
+        Ok(())
     }
 }
