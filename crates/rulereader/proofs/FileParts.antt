@@ -1,14 +1,13 @@
 -- A book and a file, from what their parts got.
-use Rattle.std.proofs.Common.{◌≡◌, ℕ, zero, suc, ◌<◌, ◌≤◌, true, ltb, List, [], ◌∷◌, map, length, get_or, drop, Err, Result, sym, ap, ◌∙◌, subst, drop-cons}
+use Rattle.std.proofs.Common.{◌≡◌, ℕ, zero, suc, ◌<◌, ◌≤◌, true, ltb, List, [], ◌∷◌, map, length, get_or, drop, Err, sym, ap, ◌∙◌, subst, drop-cons}
 use Rattle.std.proofs.lemmas.Bool.{ltb-false, le-ltb}
 use Rattle.terms.specs.Lists.{All}
 use Rattle.rules.specs.Books.{Book}
 use Rattle.rules.specs.Files.{begins, whole, file}
 use Rattle.rules.specs.Format.{mark}
 use Rattle.rules.specs.Parse.{Parser, got, number, ranged, many, list, book}
-use Rattle.rules.specs.declared.LoadRefusal.{LoadRefusal}
 use Rattle.rules.specs.declared.LoadRefusal.TheVariants.{TooLong, Foreign, Trailing}
-use Rattle.rules.proofs.Outcomes.{never, branch, inverted, got_is, on, off}
+use Rattle.rules.proofs.Outcomes.{branch, inverted, got_is, on, off}
 use Rattle.rules.proofs.Slots.{few_each}
 use Rattle.rulereader.specs.Reads.{ahead, run, Passed}
 use Rattle.rulereader.specs.declared.reader.Reader.{Reader}
@@ -17,8 +16,8 @@ use Rattle.rulereader.proofs.RuleParts.{got_same, many_length}
 ranged_inside : (low high k : ℕ) (s : List ℕ) (a k' : ℕ) (s' : List ℕ) → ranged low high k s ≡ got a k' s' → a ≤ high
 ranged_inside low high k s a k' s' e =
     inverted (number k s) _ a k' s' e (λ n k₁ s₁ _ e₁.
-    branch (ltb n low) e₁ (λ _ x. absurd (never _ _ _ _ x)) (λ _ x.
-    branch (ltb high n) x (λ _ y. absurd (never _ _ _ _ y)) (λ u y. rw (got_is n a _ _ _ _ y).0 (ltb-false high n u))))
+    branch (ltb n low) e₁ (λ _ x. cc) (λ _ x.
+    branch (ltb high n) x (λ _ y. cc) (λ u y. rw (got_is n a _ _ _ _ y).0 (ltb-false high n u))))
 
 many_all : {A : Type 0} (p : Parser A) (P : A → Type 0) → ((k : ℕ) (s : List ℕ) (a : A) (k' : ℕ) (s' : List ℕ) → p k s ≡ got a k' s' → P a) →
     (n : ℕ) (k : ℕ) (s : List ℕ) (xs : List A) (k' : ℕ) (s' : List ℕ) → many n p k s ≡ got xs k' s' → All P xs
@@ -35,17 +34,11 @@ arities_read xs r r₁ e =
       few_each xs (many_all (ranged 0 4) (λ a. a ≤ 4) (λ k s a k' s' q. ranged_inside 0 4 k s a k' s' q) n k s xs _ _ e₁),
     ))
 
--- a file whose book is read
-file_read : (s : List ℕ) (b : Book) (r r₁ : Reader) {o : Result Book LoadRefusal} → length s ≤ 4096 → begins mark s ≡ true → r.pos ≡ 4 → r.src.now ≡ s → Passed book r b r₁ →
-    whole (got b r₁.pos (drop r₁.pos s)) ≡ o → file s ≡ o
-file_read s b r r₁ l m p q e w =
-    let at : book 4 (drop 4 s) ≡ got b r₁.pos (ahead r₁) = subst (λ t. book 4 (drop 4 t) ≡ got b r₁.pos (ahead r₁)) q (subst (λ n. book n (drop n r.src.now) ≡ got b r₁.pos (ahead r₁)) p e.1) in
-    let same : ahead r₁ ≡ drop r₁.pos s = ap (drop r₁.pos) (e.0 ∙ q) in
-    off (Err TooLong) _ (le-ltb 4096 (length s) l) (on _ (Err Foreign) m (ap whole (at ∙ ap (λ t. got b r₁.pos t) same) ∙ w))
-
--- of the same file, r₁ stands after the book
+-- of a file whose book is read, r₁ stands after the book
 pub file_over : (s : List ℕ) (b : Book) (r r₁ : Reader) (k : ℕ) → length s ≤ 4096 → begins mark s ≡ true → r.pos ≡ 4 → r.src.now ≡ s → Passed book r b r₁ →
     k ≡ r₁.pos → r₁.pos < length r₁.src.now → file s ≡ Err (Trailing k)
 file_over s b r r₁ k l m p q e z h =
+    let at : book 4 (drop 4 s) ≡ got b r₁.pos (ahead r₁) = subst (λ t. book 4 (drop 4 t) ≡ got b r₁.pos (ahead r₁)) q (subst (λ n. book n (drop n r.src.now) ≡ got b r₁.pos (ahead r₁)) p e.1) in
     let lt : r₁.pos < length s = subst (λ t. r₁.pos < length t) (e.0 ∙ q) h in
-    rw z (file_read s b r r₁ l m p q e (ap (λ t. whole (got b r₁.pos t)) (drop-cons s r₁.pos 0 lt)))
+    let left = ap (drop r₁.pos) (e.0 ∙ q) ∙ drop-cons s r₁.pos 0 lt in
+    rw z (off (Err TooLong) _ (le-ltb 4096 (length s) l) (on _ (Err Foreign) m (ap whole (at ∙ ap (λ t. got b r₁.pos t) left))))

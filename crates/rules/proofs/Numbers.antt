@@ -7,7 +7,7 @@ use Rattle.rules.specs.Codes.{value_of, code_of}
 use Rattle.rules.specs.Format.{Bytes, number_bytes, value_bytes, each, counted}
 use Rattle.rules.specs.Parse.{Parser, got, third_byte, second_byte, number, ranged, index, value, many, list}
 use Rattle.rules.proofs.Signs.{code_value, value_code, code_in_range, value_in_range}
-use Rattle.rules.proofs.Outcomes.{never, got_is, branch, inverted}
+use Rattle.rules.proofs.Outcomes.{got_is, branch, inverted}
 use Rattle.rules.proofs.Codecs.{Codec, renamed, sequence, made_of, many_codec}
 
 one_byte : (n : ℕ) → n < 128 → number_bytes n ≡ n ∷ []
@@ -26,8 +26,8 @@ low_part : (x c : ℕ) → x < 128 → (x + 128 * c) % 128 ≡ x
 low_part x c h = omega arith
 
 third_sound : (k a b k₂ : ℕ) (s : List ℕ) (n k' : ℕ) (s' : List ℕ) → Bytes (a ∷ b ∷ s) → 128 ≤ a → 128 ≤ b → third_byte k a b k₂ s ≡ got n k' s' → Sound n (a ∷ b ∷ s) s'
-third_sound k a b k₂ [] n k' s' bs la lb e = absurd (never _ _ _ _ e)
-third_sound k a b k₂ (c ∷ s) n k' s' bs la lb e = branch (eqb c 0) e (λ _ x. absurd (never _ _ _ _ x)) (λ z x. branch (ltb c 128) x (good z) (λ _ y. absurd (never _ _ _ _ y)))
+third_sound k a b k₂ [] n k' s' bs la lb e = cc
+third_sound k a b k₂ (c ∷ s) n k' s' bs la lb e = branch (eqb c 0) e (λ _ x. cc) (λ z x. branch (ltb c 128) x (good z) (λ _ y. cc))
   where
     v : ℕ
     v = a - 128 + 128 * (b - 128) + 16_384 * c
@@ -49,8 +49,8 @@ third_sound k a b k₂ (c ∷ s) n k' s' bs la lb e = branch (eqb c 0) e (λ _ x
         rw (p.0, p.1) (rw (three_bytes v big, e₁, e₂, e₃) refl, small, bs.1.1.1)
 
 second_sound : (k a k₁ : ℕ) (s : List ℕ) (n k' : ℕ) (s' : List ℕ) → Bytes (a ∷ s) → 128 ≤ a → second_byte k a k₁ s ≡ got n k' s' → Sound n (a ∷ s) s'
-second_sound k a k₁ [] n k' s' bs la e = absurd (never _ _ _ _ e)
-second_sound k a k₁ (b ∷ s) n k' s' bs la e = branch (eqb b 0) e (λ _ x. absurd (never _ _ _ _ x)) (λ z x. branch (ltb b 128) x (good z) (λ u y. third_sound k a b (k₁ + 1) s n k' s' bs la (ltb-false b 128 u) y))
+second_sound k a k₁ [] n k' s' bs la e = cc
+second_sound k a k₁ (b ∷ s) n k' s' bs la e = branch (eqb b 0) e (λ _ x. cc) (λ z x. branch (ltb b 128) x (good z) (λ u y. third_sound k a b (k₁ + 1) s n k' s' bs la (ltb-false b 128 u) y))
   where
     v : ℕ
     v = a - 128 + 128 * b
@@ -68,7 +68,7 @@ second_sound k a k₁ (b ∷ s) n k' s' bs la e = branch (eqb b 0) e (λ _ x. ab
         rw (p.0, p.1) (rw (two_bytes v big small, e₁, e₂) refl, omega arith, bs.1.1)
 
 number_sound : (k : ℕ) (s : List ℕ) (n k' : ℕ) (s' : List ℕ) → Bytes s → number k s ≡ got n k' s' → Sound n s s'
-number_sound k [] n k' s' bs e = absurd (never _ _ _ _ e)
+number_sound k [] n k' s' bs e = cc
 number_sound k (a ∷ s) n k' s' bs e = branch (ltb a 128) e short (λ t x. second_sound k a (k + 1) s n k' s' bs (ltb-false a 128 t) x)
   where
     short : ltb a 128 ≡ true → got a (k + 1) s ≡ got n k' s' → Sound n (a ∷ s) s'
@@ -112,8 +112,8 @@ ranged_codec low high h = record { reads = sound; writes = whole }
     sound k s a k' s' bs e =
         inverted (number k s) _ a k' s' e (λ n k₁ s₁ e₁ e₂.
         let m = number_codec.reads k s n k₁ s₁ bs e₁ in
-        branch (ltb n low) e₂ (λ _ x. absurd (never _ _ _ _ x)) (λ t x.
-        branch (ltb high n) x (λ _ y. absurd (never _ _ _ _ y)) (λ u y.
+        branch (ltb n low) e₂ (λ _ x. cc) (λ t x.
+        branch (ltb high n) x (λ _ y. cc) (λ u y.
         let p = got_is n a _ _ _ _ y in
         rw (p.0, p.1) (m.0, (ltb-false n low t, ltb-false high n u), m.2))))
 
@@ -132,7 +132,7 @@ index_codec count h = record { reads = sound; writes = whole }
         branch (ltb n count) e₂ (λ t x.
         let p = got_is n a _ _ _ _ x in
         rw (p.0, p.1) (m.0, ltb-true n count t, m.2))
-        (λ _ x. absurd (never _ _ _ _ x)))
+        (λ _ x. cc))
 
     whole : (a : ℕ) → a < count → (k : ℕ) (s : List ℕ) → (k' : ℕ) × (index count k (number_bytes a ++ s) ≡ got a k' s)
     whole a v k s =

@@ -1,12 +1,8 @@
 -- What the outcome of a parser says of its parts.
-use Rattle.std.proofs.Common.{◌≡◌, ℕ, Bool, true, false, cond, List, refl, ap, ◌∙◌, arith}
+use Rattle.std.proofs.Common.{◌≡◌, ℕ, Bool, true, false, cond, List, refl, ap, ◌∙◌}
 use Rattle.std.proofs.lemmas.Bool.{cond-true, cond-false}
 use Rattle.rules.specs.Parse.{Outcome, Parser, got, refused, after}
 use Rattle.rules.specs.declared.LoadRefusal.{LoadRefusal}
-
--- a refusal is nothing got
-pub never : {A : Type 0} (e : LoadRefusal) (a : A) (k : ℕ) (s : List ℕ) → refused e ≡ got a k s → ⊥
-never e a k s h = let z : ◌≡◌ {A = ℕ} 0 1 = cc in omega arith
 
 pub got_is : {A : Type 0} (a b : A) (k k' : ℕ) (s s' : List ℕ) → got a k s ≡ got b k' s' → (b ≡ a) × (s' ≡ s)
 got_is a b k k' s s' e = (cc, cc)
@@ -20,7 +16,7 @@ branch false e f g = g refl e
 pub inverted : {A B : Type 0} (o : Outcome A) (f : A → Parser B) (b : B) (k : ℕ) (s : List ℕ) {G : Type 0} → after o f ≡ got b k s →
     ((a : A) (k₁ : ℕ) (s₁ : List ℕ) → o ≡ got a k₁ s₁ → f a k₁ s₁ ≡ got b k s → G) → G
 inverted (got a k₁ s₁) f b k s e g = g a k₁ s₁ refl e
-inverted (refused x) f b k s e g = absurd (never x b k s e)
+inverted (refused x) f b k s e g = cc
 
 -- a parser's run, step by step: what a part got, that it was refused, and which way a test went
 module _ {A B : Type 0} where

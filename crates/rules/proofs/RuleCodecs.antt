@@ -12,7 +12,7 @@ use Rattle.rules.specs.Books.{Goal, tell, add, Rule, Book, heads, slot_count}
 use Rattle.rules.specs.Valids.{GoalValid, RuleValid, Valid}
 use Rattle.rules.specs.Format.{Bytes, number_bytes, term_bytes, primitive_bytes, each, counted, goal_bytes, rule_bytes}
 use Rattle.rules.specs.Parse.{got, after, number, index, primitive, many, addition, goal, head_counts, rule_rest, rule, book}
-use Rattle.rules.proofs.Outcomes.{never, got_is, branch, inverted}
+use Rattle.rules.proofs.Outcomes.{got_is, branch, inverted}
 use Rattle.rules.proofs.Codecs.{Codec, joined, renamed, chosen, sequence, made_of, many_codec}
 use Rattle.rules.proofs.Numbers.{number_codec, ranged_codec, index_codec, list_codec}
 use Rattle.rules.proofs.Terms.{term_codec, primitive_kind, primitive_rest, primitive_codec, primitive_kinds, primitive_bytes_are, guard_codec}
@@ -61,7 +61,7 @@ module _ (arities : List ℕ) (few : length arities ≤ 32) (slots : ℕ) (h : s
   added kind z (add c ts) w = (w.1.0, (refl, w.1.1, w.1.2))
 
   addition_valid : (kind : ℕ) → kind ≡ 3 → (g : Goal Term) → (symbol_in g < length arities) × Added (symbol_in g) g → Kind kind g
-  addition_valid kind z (tell p) w = let y : ◌≡◌ {A = ℕ} 0 1 = cc w.1.0 in absurd (omega arith)
+  addition_valid kind z (tell p) w = cc w.1.0
   addition_valid kind z (add c ts) w = (sym z, (w.0, w.1.1, w.1.2))
 
   addition_rest : (kind : ℕ) → kind ≡ 3 → (g : Goal Term) → Kind kind g → goal_rest g ≡ number_bytes (symbol_in g) ++ each term_bytes (arguments_in g)
@@ -102,8 +102,8 @@ head_counts_codec = record { reads = sound; writes = whole }
         let m = number_codec.reads k s a k₁ s₁ bs e₁ in
         inverted (number k₁ s₁) _ c k' s' e₂ (λ b k₂ s₂ e₃ e₄.
         let n = number_codec.reads k₁ s₁ b k₂ s₂ m.2 e₃ in
-        branch (ltb (a + b) 1) e₄ (λ _ x. absurd (never _ _ _ _ x)) (λ t x.
-        branch (ltb 3 (a + b)) x (λ _ y. absurd (never _ _ _ _ y)) (λ u y.
+        branch (ltb (a + b) 1) e₄ (λ _ x. cc) (λ t x.
+        branch (ltb 3 (a + b)) x (λ _ y. cc) (λ u y.
         let p = got_is (a, b) c _ _ _ _ y in
         rw (p.0, p.1) (joined s (number_bytes a) (number_bytes b) s₁ s₂ m.0 n.0, (ltb-false (a + b) 1 t, ltb-false 3 (a + b) u), n.2)))))
 

@@ -93,6 +93,7 @@ impl LoadRefusal {
     pub fn number(self) -> Option<u8>
         ensures { result ≡ refusal_number self }
     {
+        // No discriminants: variants that hold a place have none to cast.
         match self {
             LoadRefusal::TooLong => Some(1),
             LoadRefusal::Foreign => Some(2),
