@@ -89,7 +89,8 @@ impl Kind for PrimitiveKind {
     ghost exact = { λ _ _ h. h };
 }
 
-/// The number of a body item that adds a constraint.
+/// The number of `ItemKind::Add`.
+// A constant: beside a variant that holds a kind there is no discriminant to cast.
 pub const ADD_KIND: u32 = 3;
 
 /// What a body item does.
