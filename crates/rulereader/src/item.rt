@@ -24,7 +24,7 @@ impl Production for ArityPart {
     ghost parser = { λ _. ranged 0 4 };
 
     fn read(&self, reader: &mut Reader<'_>) -> Result<u8, LoadRefusal> {
-        let arity = reader.ranged(0, 4)?;
+        let arity = reader.ranged(0..=4)?;
         Ok(arity as u8)
     }
 }

@@ -57,8 +57,8 @@ fn is_marked(bytes: &[u8]) -> bool
 fn read_book(reader: &mut Reader<'_>) -> Result<FileContents, LoadRefusal>
     ensures { Loads contents_book book reader.old result reader.new }
 {
-    let arities = reader.list(&ArityPart, 1, 32)?;
+    let arities = reader.list(&ArityPart, 1..=32)?;
     let signature = Signature { arities: &arities };
-    let rules = reader.list(&RulePart { signature }, 0, 32)?;
+    let rules = reader.list(&RulePart { signature }, 0..=32)?;
     Ok(FileContents { arities, rules })
 }

@@ -54,13 +54,13 @@ impl RulePart<'_> {
         ensures { Loads rule_of (rule_rest self.now.signature.arities.now kept heads.items) reader.old result reader.new }
     {
         let slots = self.signature.slots(&heads);
-        let guards = reader.list(&GuardPart { slots }, 0, 4)?;
-        let fresh = reader.ranged(0, 4)? as u8;
+        let guards = reader.list(&GuardPart { slots }, 0..=4)?;
+        let fresh = reader.ranged(0..=4)? as u8;
         let items = ItemPart {
             signature: self.signature,
             slots: slots + fresh,
         };
-        let body = reader.list(&items, 0, 6)?;
+        let body = reader.list(&items, 0..=6)?;
         Ok(Rule {
             kept,
             heads,

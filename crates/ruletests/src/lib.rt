@@ -5,6 +5,7 @@
 mod tests {
     use listing::Listing;
     use rulefile::{WriteRefusal, load};
+    use rules::{ADD_KIND, ItemKind, PrimitiveKind, TermKind, UnknownKind};
     use std::test::Fail;
 
     // One symbol of no arguments, and no rule.
@@ -58,6 +59,29 @@ mod tests {
         };
         let text = format!(in rt.alloc(); "{refusal}")?;
         assert_eq!(rt; text.as_str(), "4 4");
+        Ok(())
+    }
+
+    #[test]
+    fn a_write_refusal_is_shown_by_its_number(rt: HostRuntime) -> Result<(), Fail> {
+        let refusal = WriteRefusal::ShortBuffer;
+        let text = format!(in rt.alloc(); "{refusal}")?;
+        assert_eq!(rt; text.as_str(), "31");
+        Ok(())
+    }
+
+    #[test]
+    fn kinds_are_made_from_their_numbers(rt: HostRuntime) -> Result<(), Fail> {
+        assert_eq!(rt; TermKind::try_from(1), Ok(TermKind::Slot));
+        assert_eq!(rt; PrimitiveKind::try_from(2), Ok(PrimitiveKind::Most));
+        assert_eq!(rt;
+            ItemKind::try_from(0),
+            Ok(ItemKind::Tell(PrimitiveKind::Same))
+        );
+        assert_eq!(rt; ItemKind::try_from(ADD_KIND), Ok(ItemKind::Add));
+        assert_eq!(rt; PrimitiveKind::try_from(ADD_KIND), Err(UnknownKind(3)));
+        let text = format!(in rt.alloc(); "{}", UnknownKind(3))?;
+        assert_eq!(rt; text.as_str(), "3 is no kind");
         Ok(())
     }
 }

@@ -1,11 +1,13 @@
 // Reads numbers, values, terms and primitives.
-ghost use Rattle.std.specs.Prelude.{ℕ, ◌+◌, ◌<◌, ◌≤◌, IfOk};
+ghost use Rattle.std.specs.Prelude.{ℕ, ◌≡◌, ◌+◌, ◌<◌, ◌≤◌, false, IfOk};
 ghost use Rattle.rules.specs.Parse.{byte, number, ranged, index, value, term, primitive, guard, head_counts};
+ghost use Rattle.std.specs.Range.{range_inclusive_start, range_inclusive_end, range_inclusive_exhausted};
 ghost use Rattle.rules.specs.Kinds.{primitive_kind_number};
 ghost use Rattle.rulereader.specs.Reads.{Reads, ReadsAs};
 
 use crate::reader::Reader;
 use rules::{Kind, LoadRefusal, PrimitiveKind, TermKind, code_value};
+use std::ops::RangeInclusive;
 use terms::{Primitive, Term};
 
 impl Reader<'_> {
@@ -42,15 +44,15 @@ impl Reader<'_> {
         Ok(u32::from(first) - 128 + 128 * (u32::from(second) - 128) + 16_384 * u32::from(third))
     }
 
-    /// A count or a value's code, from `low` to `high`.
-    // Two numbers and no range: a range can be used up, and each clause here would have to rule that out.
-    pub(crate) fn ranged(&mut self, low: u32, high: u32) -> Result<u32, LoadRefusal>
-        ensures inside { IfOk result (λ n. (low ≤ n) × (n ≤ high)) }
-        ensures reads { Reads (ranged low high) self.old result self.new }
+    /// A count or a value's code, in a range.
+    pub(crate) fn ranged(&mut self, range: RangeInclusive<u32>) -> Result<u32, LoadRefusal>
+        requires { range_inclusive_exhausted range ≡ false }
+        ensures inside { IfOk result (λ n. (range_inclusive_start range ≤ n) × (n ≤ range_inclusive_end range)) }
+        ensures reads { Reads (ranged (range_inclusive_start range) (range_inclusive_end range)) self.old result self.new }
     {
         let place = self.pos;
         let n = self.number()?;
-        if !(low..=high).contains(&n) {
+        if !range.contains(&n) {
             return Err(LoadRefusal::OutOfRange(place));
         }
         Ok(n)
@@ -73,7 +75,7 @@ impl Reader<'_> {
     fn value(&mut self) -> Result<i32, LoadRefusal>
         ensures { Reads value self.old result self.new }
     {
-        let code = self.ranged(0, 2_000_000)?;
+        let code = self.ranged(0..=2_000_000)?;
         Ok(code_value(code))
     }
 

@@ -1,10 +1,12 @@
 // Reads parts of which several stand in a row.
-ghost use Rattle.std.specs.Prelude.{ℕ, map};
+ghost use Rattle.std.specs.Prelude.{ℕ, ◌≡◌, false, map};
+ghost use Rattle.std.specs.Range.{range_inclusive_start, range_inclusive_end, range_inclusive_exhausted};
 ghost use Rattle.rules.specs.Parse.{Parser, list, many};
 ghost use Rattle.rulereader.specs.Reads.{Loads};
 
 use crate::reader::Reader;
 use rules::LoadRefusal;
+use std::ops::RangeInclusive;
 
 /// How to read one of several parts in a row.
 pub trait Production {
@@ -37,16 +39,16 @@ impl Reader<'_> {
         Ok(all)
     }
 
-    /// A count from `low` to `high`, and so many parts.
+    /// A count in a range, and so many parts.
     pub(crate) fn list<P: Production>(
         &mut self,
         production: &P,
-        low: u32,
-        high: u32,
+        counts: RangeInclusive<u32>,
     ) -> Result<Vec<P::Part>, LoadRefusal>
-        ensures { Loads (λ v. map P.Production.view v.items) (list low high (P.Production.parser production.now)) self.old result self.new }
+        requires { range_inclusive_exhausted counts ≡ false }
+        ensures { Loads (λ v. map P.Production.view v.items) (list (range_inclusive_start counts) (range_inclusive_end counts) (P.Production.parser production.now)) self.old result self.new }
     {
-        let count = self.ranged(low, high)?;
+        let count = self.ranged(counts)?;
         self.parts(production, count as usize)
     }
 }
