@@ -3,3 +3,4 @@ pub mod Fields
 pub mod Links
 pub mod Reaches
 pub mod Stores
+pub mod Pairs

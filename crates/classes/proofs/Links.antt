@@ -4,29 +4,58 @@ use Rattle.std.proofs.lemmas.Bool.{cases_eq}
 use Rattle.terms.specs.Values.{IsValue}
 use Rattle.classes.specs.declared.row.ClassRow.{ClassRow}
 use Rattle.contents.specs.Contents.{Holding}
-use Rattle.classes.specs.Rows.{parent_at, rank_at, held_at, standing_at, Rooted, RootSays, root_of, steps, Fits, Admits, Restricted, Linkable}
+use Rattle.classes.specs.Rows.{parent_at, rank_at, held_at, standing_at, Rooted, RootSays, IsRoot, root_of, steps, Fits, Admits, Restricted, Linkable}
 use Rattle.classes.proofs.Climbs.{climb_root, root_step, climb_same, root_holds, extends, joins_to, joins_from, narrows_to, narrows_from}
-use Rattle.classes.proofs.Fields.{field_at, field_set_same, field_set_other}
+use Rattle.classes.proofs.Fields.{field_read, field_at, field_set_same, field_set_other}
 
 pub along : {A B : Type 0} → A ≡ B → A → B
 along e a = subst (λ (X : Type 0). X) e a
 
-pub parent_read : {C : Type 0} (rows : List (ClassRow C)) (i : ℕ) (d : ClassRow C) → i < length rows →
-    parent_at rows i ≡ (get_or rows i d).parent
-parent_read rows i d l = field_at (λ r. r.parent) rows i d i l
+-- what a row says, by place
+pub parent_read : {C : Type 0} (rows : List (ClassRow C)) (i : ℕ) (d : ClassRow C) → i < length rows → d ≡ get_or rows i d →
+    parent_at rows i ≡ d.parent
+parent_read rows i d l e = field_read (λ r. r.parent) rows i d i l e
 
 pub rank_read : {C : Type 0} (rows : List (ClassRow C)) (i : ℕ) (d : ClassRow C) → i < length rows →
     rank_at rows i ≡ (get_or rows i d).rank
 rank_read rows i d l = field_at (λ r. r.rank) rows i d 0 l
 
 pub held_read : {C : Type 0} (H : C → ℤ → Type 0) (rows : List (ClassRow C)) (i : ℕ) (d : ClassRow C) (z : ℤ) →
-    i < length rows → held_at H rows i z ≡ H (get_or rows i d).content z
-held_read H rows i d z l = field_at (λ r. H r.content z) rows i d ⊥ l
+    i < length rows → d ≡ get_or rows i d → held_at H rows i z ≡ H d.content z
+held_read H rows i d z l e = field_read (λ r. H r.content z) rows i d ⊥ l e
+
+-- a root holds its value
+pub top_held : {C : Type 0} (H : C → ℤ → Type 0) (rows : List (ClassRow C)) (r : ℕ) (d : ClassRow C) → IsRoot rows r → d ≡ get_or rows r d →
+    (v : ℕ → ℤ) → Admits H rows v → H d.content (v r)
+top_held H rows r d k e v f = along (held_read H rows r d (v r) k.0 e) ((f.1 r k.0).1 k.1)
 
 -- what a meeting holds
-pub meets : {C : Type 0} (H : C → ℤ → Type 0) → ((c : C) (z : ℤ) → H c z → IsValue z) → (a b c : C) →
-    Holding H (λ z. H a z × H b z) (Some c) → (z : ℤ) → H c z ↔ (H a z × H b z)
-meets H proper a b c m z = (λ h. (m z (proper c z h)).0 h, λ p. (m z (proper a z p.0)).1 p)
+pub meets : {C : Type 0} (H : C → ℤ → Type 0) → ((c : C) (z : ℤ) → H c z → IsValue z) → (P : ℤ → Type 0) (a c : C) →
+    Holding H (λ z. H a z × P z) (Some c) → (z : ℤ) → H c z ↔ (H a z × P z)
+meets H proper P a c m z = (λ h. (m z (proper c z h)).0 h, λ p. (m z (proper a z p.0)).1 p)
+
+-- two roots, one above the other, and the meeting of what they hold
+pub linkable : {C : Type 0} (H : C → ℤ → Type 0) (rows : List (ClassRow C)) (r t : ℕ) (d e : ClassRow C) (c : C) → Rooted rows →
+    IsRoot rows r → IsRoot rows t → d ≡ get_or rows r d → e ≡ get_or rows t e → standing_at rows r < standing_at rows t →
+    ((z : ℤ) → H c z ↔ (H d.content z × H e.content z)) → Linkable H rows r t c
+linkable H rows r t d e c down kr kt ed ee under m =
+    record {
+      rooted = down;
+      under = under;
+      lower_in = kr.0;
+      upper_in = kt.0;
+      lower_top = kr.1;
+      upper_top = kt.1;
+      meets = λ z. (
+        λ h. (along (sym (held_read H rows r d z kr.0 ed)) ((m z).0 h).0, along (sym (held_read H rows t e z kt.0 ee)) ((m z).0 h).1),
+        λ p. (m z).1 (along (held_read H rows r d z kr.0 ed) p.0, along (held_read H rows t e z kt.0 ee) p.1),
+      );
+    }
+
+-- two roots that are not one do not stand in one place
+pub apart : {C : Type 0} (rows : List (ClassRow C)) (r t : ℕ) → Rooted rows → r < length rows → t < length rows → (r ≡ t → ⊥) →
+    standing_at rows t ≤ standing_at rows r → standing_at rows t < standing_at rows r
+apart rows r t down lr lt ne no_less = let n = down.0 in omega arith
 
 module _ {C : Type 0} (rows : List (ClassRow C)) (down : Rooted rows) where
   low_standing : (i : ℕ) → i < length rows → standing_at rows i < steps
@@ -52,10 +81,10 @@ module _ {C : Type 0} (rows : List (ClassRow C)) (down : Rooted rows) where
   root_value H x r l s v f =
       climb_same (length rows) (parent_at rows) (standing_at rows) steps into rises low_standing (held_at H rows) v f.1 steps x l ∙ ap v (sym s.is)
 
-  pub root_held : (H : C → ℤ → Type 0) (x r : ℕ) (d : ClassRow C) → x < length rows → RootSays rows x r → (v : ℕ → ℤ) → Admits H rows v →
-      H (get_or rows r d).content (v x)
-  root_held H x r d l s v f =
-      along (held_read H rows r d (v x) s.within)
+  pub root_held : (H : C → ℤ → Type 0) (x r : ℕ) (d : ClassRow C) → x < length rows → RootSays rows x r → d ≡ get_or rows r d →
+      (v : ℕ → ℤ) → Admits H rows v → H d.content (v x)
+  root_held H x r d l s e v f =
+      along (held_read H rows r d (v x) s.within e)
       (subst (λ (j : ℕ). held_at H rows j (v x)) (sym s.is)
       (root_holds (length rows) (parent_at rows) (standing_at rows) steps into rises low_standing (held_at H rows) v f.1 x l))
 
@@ -257,17 +286,14 @@ module _ {C : Type 0} (H : C → ℤ → Type 0) (rows : List (ClassRow C)) wher
       g_rest : (i : ℕ) (z : ℤ) → (i ≡ r → ⊥) → held_at H (set rows r one) i z ≡ held_at H rows i z
       g_rest i z ne = field_set_other (λ x. H x.content z) rows r i one ⊥ ne
 
-  -- what says the same of the valuations of the rows restricts them to the same
-  pub restricted_iff : (P Q : (ℕ → ℤ) → Type 0) (b : List (ClassRow C)) →
-      ((v : ℕ → ℤ) → Admits H rows v → P v ↔ Q v) → Restricted H rows P b → Restricted H rows Q b
-  restricted_iff P Q b e r =
-      record {
-        rooted = r.rooted;
-        size = r.size;
-        admits = λ v.
-            (λ f. let a = (r.admits v).0 f in (a.0, (e v a.0).0 a.1), λ a. (r.admits v).1 (a.0, (e v a.0).1 a.1));
-      }
-
-  pub restricted_all : (P : (ℕ → ℤ) → Type 0) → Rooted rows → ((v : ℕ → ℤ) → Admits H rows v → P v) → Restricted H rows P rows
-  restricted_all P down e =
-      record { rooted = down; size = refl; admits = λ v. (λ f. (f, e v f), λ a. a.0) }
+  -- a root that holds what it did and has P holds the values of its class that have P
+  pub confined : ((c : C) (z : ℤ) → H c z → IsValue z) → Rooted rows → (r : ℕ) (d m : ClassRow C) (c : C) (P : ℤ → Type 0) → IsRoot rows r →
+      d ≡ get_or rows r d → m ≡ get_or rows r m → Holding H (λ z. H d.content z × P z) (Some c) →
+      Restricted H rows (λ v. P (v r)) (set rows r (record { parent = m.parent; rank = m.rank; content = c }))
+  confined proper down r d m c P k ed em meet =
+      narrowed down r c P k.0 k.1
+      (λ z. let both = meets H proper P d.content c meet z in (
+        λ h. let p = both.0 h in (along (sym (held_read H rows r d z k.0 ed)) p.0, p.1),
+        λ p. both.1 (along (held_read H rows r d z k.0 ed) p.0, p.1),
+      ))
+      _ (sym (parent_read rows r m k.0 em) ∙ k.1) (sym (field_read (λ x. x.rank) rows r m 0 k.0 em)) refl

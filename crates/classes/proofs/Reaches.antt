@@ -1,7 +1,8 @@
 -- Valuations of rows: any held value for each root makes one.
-use Rattle.std.proofs.Common.{◌≡◌, ℕ, zero, suc, ◌<◌, List, [], ◌∷◌, map, length, get_or, ℤ, pos, ◌≤ℤ◌, sym, ◌∙◌, subst, ⊎_elim, arith}
+use Rattle.std.proofs.Common.{◌≡◌, ℕ, zero, suc, ◌<◌, List, [], ◌∷◌, map, length, get_or, Bool, true, false, ℤ, pos, sym, ◌∙◌, subst, ⊎_elim, arith}
 use Rattle.std.proofs.lemmas.Int.{ints}
 use Rattle.std.proofs.lemmas.Bool.{cases_eq}
+use Rattle.terms.specs.Answers.{Answers}
 use Rattle.terms.specs.Values.{IsValue}
 use Rattle.classes.specs.declared.row.ClassRow.{ClassRow}
 use Rattle.classes.specs.Rows.{held_at, Rooted, RootSays, root_of, Valued, Admits, Contained}
@@ -47,49 +48,40 @@ module _ {C : Type 0} (H : C → ℤ → Type 0) (low : C → ℤ) (held : (c : 
     some_admitted = (λ i. lows rows (root_of rows i), choose (lows rows) (lows_valued rows) (lows_held rows))
 
     -- each value that its root holds is a variable's in some valuation
-    pub reaches : (x r : ℕ) (d : ClassRow C) (z : ℤ) → RootSays rows x r → H (get_or rows r d).content z →
-        (v : ℕ → ℤ) × Admits H rows v × (v x ≡ z)
-    reaches x r d z s hz = (
+    reaches : (x r : ℕ) (z : ℤ) → RootSays rows x r → IsValue z → held_at H rows r z → (v : ℕ → ℤ) × Admits H rows v × (v x ≡ z)
+    reaches x r z s p hz = (
       λ i. put (lows rows) r z (root_of rows i),
-      choose (put (lows rows) r z) (put_valued (lows rows) r z (proper (get_or rows r d).content z hz) (lows_valued rows))
-          (put_held rows (lows rows) r z (along (sym (held_read H rows r d z s.within)) hz) (lows_held rows)),
+      choose (put (lows rows) r z) (put_valued (lows rows) r z p (lows_valued rows)) (put_held rows (lows rows) r z hz (lows_held rows)),
       put_same (lows rows) r z (root_of rows x) (sym s.is),
     )
 
-    -- what a variable's root holds is what it can be
-    pub contained : (x r : ℕ) (d : ClassRow C) → x < length rows → RootSays rows x r → Contained H rows x (get_or rows r d).content
-    contained x r d l s = record { held = root_held rows down H x r d l s; reached = λ z. reaches x r d z s }
-
     -- and so for two variables of two classes at once
-    pub reaches_two : (a b r t : ℕ) (d e : ClassRow C) (y z : ℤ) → RootSays rows a r → RootSays rows b t → (r ≡ t → ⊥) →
-        H (get_or rows r d).content y → H (get_or rows t e).content z →
-        (v : ℕ → ℤ) × Admits H rows v × (v a ≡ y) × (v b ≡ z)
-    reaches_two a b r t d e y z sa sb ne hy hz = (
+    reaches_two : (a b r t : ℕ) (y z : ℤ) → RootSays rows a r → RootSays rows b t → (r ≡ t → ⊥) → IsValue y → IsValue z →
+        held_at H rows r y → held_at H rows t z → (v : ℕ → ℤ) × Admits H rows v × (v a ≡ y) × (v b ≡ z)
+    reaches_two a b r t y z sa sb ne py pz hy hz = (
       λ i. put (put (lows rows) r y) t z (root_of rows i),
-      choose (put (put (lows rows) r y) t z)
-          (put_valued (put (lows rows) r y) t z (proper (get_or rows t e).content z hz)
-          (put_valued (lows rows) r y (proper (get_or rows r d).content y hy) (lows_valued rows)))
-          (put_held rows (put (lows rows) r y) t z (along (sym (held_read H rows t e z sb.within)) hz)
-          (put_held rows (lows rows) r y (along (sym (held_read H rows r d y sa.within)) hy) (lows_held rows))),
+      choose (put (put (lows rows) r y) t z) (put_valued (put (lows rows) r y) t z pz (put_valued (lows rows) r y py (lows_valued rows)))
+          (put_held rows (put (lows rows) r y) t z hz (put_held rows (lows rows) r y hy (lows_held rows))),
       put_other (put (lows rows) r y) t z (root_of rows a) (λ q. ne (sa.is ∙ q)) ∙ put_same (lows rows) r y (root_of rows a) (sym sa.is),
       put_same (put (lows rows) r y) t z (root_of rows b) (sym sb.is),
     )
 
-    -- two variables of two classes that can differ are not always the same
-    pub differ : (a b r t : ℕ) (d e : ClassRow C) (y z : ℤ) → RootSays rows a r → RootSays rows b t → (r ≡ t → ⊥) →
-        H (get_or rows r d).content y → H (get_or rows t e).content z → (y ≡ z → ⊥) →
-        ((v : ℕ → ℤ) → Admits H rows v → v a ≡ v b) → ⊥
-    differ a b r t d e y z sa sb ne hy hz no_eq all =
-        let w = reaches_two a b r t d e y z sa sb ne hy hz in
-        no_eq (sym w.2 ∙ (all w.0 w.1 ∙ w.3))
+    -- what a variable's root holds is what it can be
+    pub contained : (x r : ℕ) (d : ClassRow C) → x < length rows → RootSays rows x r → d ≡ get_or rows r d → Contained H rows x d.content
+    contained x r d l s e =
+        record {
+          held = root_held rows down H x r d l s e;
+          reached = λ z h. reaches x r z s (proper d.content z h) (along (sym (held_read H rows r d z s.within e)) h);
+        }
 
--- two variables whose classes hold one and the same value are the same
-pub agree : {C : Type 0} (H : C → ℤ → Type 0) (low high : C → ℤ) → ((c : C) → H c (low c) × H c (high c)) → ((c : C) (z : ℤ) → H c z → (low c ≤ℤ z) × (z ≤ℤ high c)) →
-    (rows : List (ClassRow C)) → Rooted rows → (a b r t : ℕ) (d e : ClassRow C) → a < length rows → b < length rows →
-    RootSays rows a r → RootSays rows b t →
-    low (get_or rows r d).content ≡ high (get_or rows t e).content → high (get_or rows r d).content ≡ low (get_or rows t e).content →
-    (v : ℕ → ℤ) → Admits H rows v → v a ≡ v b
-agree H low high ends between rows down a b r t d e la lb sa sb p q v f =
-    let x = between (get_or rows r d).content (v a) (root_held rows down H a r d la sa v f) in
-    let y = between (get_or rows t e).content (v b) (root_held rows down H b t e lb sb v f) in
-    omega (arith, ints)
+    -- variables of two classes are always the same exactly where the classes hold one value, and the same
+    pub alike : (a b r t : ℕ) (d e : ClassRow C) (k : Bool) → a < length rows → b < length rows → RootSays rows a r → RootSays rows b t → (r ≡ t → ⊥) →
+        d ≡ get_or rows r d → e ≡ get_or rows t e → Answers k ((y z : ℤ) → H d.content y → H e.content z → y ≡ z) →
+        Answers k ((v : ℕ → ℤ) → Admits H rows v → v a ≡ v b)
+    alike a b r t d e true la lb sa sb ne ed ee one = λ v f.
+        one (v a) (v b) (root_held rows down H a r d la sa ed v f) (root_held rows down H b t e lb sb ee v f)
+    alike a b r t d e false la lb sa sb ne ed ee no_one = λ all.
+        no_one (λ y z hy hz.
+        let w = reaches_two a b r t y z sa sb ne (proper d.content y hy) (proper e.content z hz)
+        (along (sym (held_read H rows r d y sa.within ed)) hy) (along (sym (held_read H rows t e z sb.within ee)) hz) in
+        sym w.2 ∙ (all w.0 w.1 ∙ w.3))

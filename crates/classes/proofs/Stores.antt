@@ -1,5 +1,5 @@
 -- A forest that is narrowed, grown or asked, from what its rows admit.
-use Rattle.std.proofs.Common.{◌≡◌, ℕ, ◌+◌, ◌<◌, ◌≤◌, Bool, true, false, not, eqb, List, [], ◌∷◌, ◌++◌, length, ℤ, ◌≤ℤ◌, Some, None, vec_items, vec_len, Option, sym, ap, ◌∙◌, subst, ⊎_elim, arith, w32, SFits, of_z}
+use Rattle.std.proofs.Common.{◌≡◌, ℕ, ◌+◌, ◌<◌, ◌≤◌, Bool, true, false, eqb, ◌↔◌, List, [], ◌∷◌, ◌++◌, length, ℤ, ◌≤ℤ◌, Some, None, vec_items, vec_len, Option, sym, refl, ap, ◌∙◌, subst, ⊎_elim, arith, w32, SFits, of_z}
 use Rattle.std.proofs.lemmas.Bool.{cases_eq, true≢false}
 use Rattle.std.proofs.lemmas.Int.{ints}
 use Rattle.std.proofs.lemmas.List.{length_push}
@@ -8,46 +8,42 @@ use Rattle.terms.specs.Values.{IsValue}
 use Rattle.classes.specs.declared.row.ClassRow.{ClassRow}
 use Rattle.classes.specs.declared.forest.Forest.{Forest}
 use Rattle.contents.specs.Contents.{HeldIn}
-use Rattle.classes.specs.Rows.{parent_at, rank_at, held_at, standing_at, Rooted, Admits, Restricts, Contained, SameSays}
-use Rattle.classes.specs.Forests.{made_in, Allows, Barren, Grown, Narrowed, Throughout, LeastIs, GreatestIs, OneValue}
+use Rattle.classes.specs.Rows.{parent_at, rank_at, held_at, standing_at, Rooted, RootSays, Admits, Restricted, Contained}
+use Rattle.classes.specs.Forests.{made_in, Allows, Barren, Grown, Narrowed, Throughout, RangeIs, LeastIs, GreatestIs, OneValue}
 use Rattle.classes.proofs.Fields.{field_low, field_last}
 use Rattle.classes.proofs.Links.{along}
 use Rattle.classes.proofs.Reaches.{some_admitted}
-use Rattle.contents.proofs.Signs.{answers_bits}
+use Rattle.contents.proofs.Signs.{answers_bits, answers_iff}
 
--- rows that were restricted
-module _ {C : Type 0} (H : C → ℤ → Type 0) (a : List (ClassRow C)) (P : (ℕ → ℤ) → Type 0) where
-  pub restricts_size : (r : Bool) (b : List (ClassRow C)) → Restricts H a P r b → length b ≡ length a
-  restricts_size true b s = s.size
-  restricts_size false b s = ap length s.kept
-
-  pub restricts_rooted : (r : Bool) (b : List (ClassRow C)) → Rooted a → Restricts H a P r b → Rooted b
-  restricts_rooted true b d s = s.rooted
-  restricts_rooted false b d s = subst (λ (l : List (ClassRow C)). Rooted l) (sym s.kept) d
-
-  pub narrowed_by : (f : Forest C) (r : Bool) (b : List (ClassRow C)) → a ≡ vec_items f.rows → f.failed ≡ false → Restricts H a P r b →
-      (g : Forest C) → vec_items g.rows ≡ b → vec_len g.rows ≡ vec_len f.rows → g.failed ≡ not r → Narrowed H f P g
-  narrowed_by f true b ea ff s g gi gl gf =
+-- a forest whose valuations were restricted
+module _ {C : Type 0} (H : C → ℤ → Type 0) (f : Forest C) (P : (ℕ → ℤ) → Type 0) (g : Forest C) (size : made_in g ≡ made_in f) where
+  pub restricted : (a b : List (ClassRow C)) → a ≡ vec_items f.rows → vec_items g.rows ≡ b → g.failed ≡ f.failed → Restricted H a P b → Narrowed H f P g
+  restricted a b ea eb e r =
       record {
-        size = gl;
+        size = size;
         allows = λ v. (
-          λ x. let y = (s.admits v).0 (subst (λ (l : List (ClassRow C)). Admits H l v) gi x.1) in
-              ((ff, subst (λ (l : List (ClassRow C)). Admits H l v) ea y.0), y.1),
-          λ y. (
-            gf,
-            subst (λ (l : List (ClassRow C)). Admits H l v) (sym gi)
-                ((s.admits v).1 (subst (λ (l : List (ClassRow C)). Admits H l v) (sym ea) y.0.1, y.1)),
-          ),
+          λ x. let y = (r.admits v).0 (subst (λ (l : List (ClassRow C)). Admits H l v) eb x.1) in
+              ((sym e ∙ x.0, subst (λ (l : List (ClassRow C)). Admits H l v) ea y.0), y.1),
+          λ y. (e ∙ y.0.0, subst (λ (l : List (ClassRow C)). Admits H l v) (sym eb) ((r.admits v).1 (subst (λ (l : List (ClassRow C)). Admits H l v) (sym ea) y.0.1, y.1))),
         );
       }
-  narrowed_by f false b ea ff s g gi gl gf =
-      record {
-        size = gl;
-        allows = λ v. (
-          λ x. absurd (true≢false (sym gf ∙ x.0)),
-          λ y. absurd (s.never v (subst (λ (l : List (ClassRow C)). Admits H l v) (sym ea) y.0.1) y.1),
-        );
-      }
+
+  pub refuted : ((v : ℕ → ℤ) → Admits H (vec_items f.rows) v → P v → ⊥) → g.failed ≡ true → Narrowed H f P g
+  refuted never e =
+      record { size = size; allows = λ v. (λ x. absurd (true≢false (sym e ∙ x.0)), λ y. absurd (never v y.0.1 y.1)) }
+
+-- what holds anyway leaves a forest as it was
+pub narrowed_not : {C : Type 0} (H : C → ℤ → Type 0) (f : Forest C) (P : (ℕ → ℤ) → Type 0) → Throughout H f P → Narrowed H f P f
+narrowed_not H f P all = record { size = refl; allows = λ v. (λ a. (a, all v a), λ b. b.0) }
+
+-- what says the same of the valuations narrows to the same
+pub narrowed_iff : {C : Type 0} (H : C → ℤ → Type 0) (f : Forest C) (P Q : (ℕ → ℤ) → Type 0) (g : Forest C) →
+    ((v : ℕ → ℤ) → Allows H f v → P v ↔ Q v) → Narrowed H f P g → Narrowed H f Q g
+narrowed_iff H f P Q g e n =
+    record {
+      size = n.size;
+      allows = λ v. (λ a. let b = (n.allows v).0 a in (b.0, (e v b.0).0 b.1), λ b. (n.allows v).1 (b.0, (e v b.0).1 b.1));
+    }
 
 -- a forest that has failed allows nothing
 module _ {C : Type 0} (H : C → ℤ → Type 0) (f : Forest C) where
@@ -133,42 +129,30 @@ grown {C} H f r x g ex room len own flat all gi gl gf =
     }
 
 -- questions to a forest that has not failed
-module _ {C : Type 0} (H : C → ℤ → Type 0) (f : Forest C) (a : List (ClassRow C)) (e : a ≡ vec_items f.rows) (ff : f.failed ≡ false) where
-  to_rows : (v : ℕ → ℤ) → Allows H f v → Admits H a v
-  to_rows v k = subst (λ (l : List (ClassRow C)). Admits H l v) (sym e) k.1
+module _ {C : Type 0} (H : C → ℤ → Type 0) (f : Forest C) (ff : f.failed ≡ false) where
+  pub range_is : (x : ℕ) (c : C) → x < made_in f → Contained H (vec_items f.rows) x c → RangeIs H f x c
+  range_is x c l s =
+      record { within = l; held = λ v k. s.held v k.1; reached = λ z h. let y = s.reached z h in (y.0, (ff, y.1), y.2) }
 
-  from_rows : (v : ℕ → ℤ) → Admits H a v → Allows H f v
-  from_rows v k = (ff, subst (λ (l : List (ClassRow C)). Admits H l v) e k)
-
-  pub same_says : (x y : ℕ) (r : Bool) → x < vec_len f.rows → y < vec_len f.rows → SameSays H a x y r →
+  pub same_says : (x y : ℕ) (r : Bool) → x < made_in f → y < made_in f → Answers r ((v : ℕ → ℤ) → Admits H (vec_items f.rows) v → v x ≡ v y) →
       Answers r ((x < made_in f) × (y < made_in f) × Throughout H f (λ v. v x ≡ v y))
-  same_says x y true lx ly s = (lx, ly, λ v k. s v (to_rows v k))
-  same_says x y false lx ly s = λ all. s (λ v k. all.2 v (from_rows v k))
+  same_says x y r lx ly s = answers_iff r _ _ (λ all. (lx, ly, λ v k. all v k.1)) (λ all v k. all.2 v (ff, k)) s
 
-  module _ (x : ℕ) (c : C) (l : x < vec_len f.rows) (s : Contained H a x c) where
-    pub lies_says : (by : C) (o : Option C) (r : Bool) → o ≡ Some by → Answers r ((z : ℤ) → H c z → H by z) → Answers r ((x < made_in f) × Throughout H f (λ v. HeldIn H o (v x)))
-    lies_says by o true eo w = (l, λ v k. subst (λ (p : Option C). HeldIn H p (v x)) (sym eo) (w (v x) (s.held v (to_rows v k))))
-    lies_says by o false eo w = λ all. w (λ z h.
-        let y = s.reached z h in
-        subst (λ (n : ℤ). H by n) y.2 (subst (λ (p : Option C). HeldIn H p (y.0 x)) eo (all.1 y.0 (from_rows y.0 y.1))))
+-- questions to what a variable can be
+module _ {C : Type 0} (H : C → ℤ → Type 0) (f : Forest C) (x : ℕ) (c : C) (s : RangeIs H f x c) where
+  pub least_is : (low : C → ℤ) → ((k : C) → H k (low k)) → ((k : C) (z : ℤ) → H k z → low k ≤ℤ z) → (z : ℤ) → low c ≡ z → LeastIs H f x z
+  least_is low held under z ez =
+      record { within = s.within; reached = s.reached z (subst (H c) ez (held c)); bound = λ v k. subst (λ (n : ℤ). n ≤ℤ v x) ez (under c (v x) (s.held v k)) }
 
-    pub least_is : (low : C → ℤ) → ((k : C) → H k (low k)) → ((k : C) (z : ℤ) → H k z → low k ≤ℤ z) → (z : ℤ) → low c ≡ z → LeastIs H f x z
-    least_is low held under z ez =
-        let y = s.reached (low c) (held c) in
-        record {
-          within = l;
-          reached = (y.0, from_rows y.0 y.1, y.2 ∙ ez);
-          bound = λ v k. subst (λ (n : ℤ). n ≤ℤ v x) ez (under c (v x) (s.held v (to_rows v k)));
-        }
+  pub greatest_is : (high : C → ℤ) → ((k : C) → H k (high k)) → ((k : C) (z : ℤ) → H k z → z ≤ℤ high k) → (z : ℤ) → high c ≡ z → GreatestIs H f x z
+  greatest_is high held over z ez =
+      record { within = s.within; reached = s.reached z (subst (H c) ez (held c)); bound = λ v k. subst (λ (n : ℤ). v x ≤ℤ n) ez (over c (v x) (s.held v k)) }
 
-    pub greatest_is : (high : C → ℤ) → ((k : C) → H k (high k)) → ((k : C) (z : ℤ) → H k z → z ≤ℤ high k) → (z : ℤ) → high c ≡ z → GreatestIs H f x z
-    greatest_is high held over z ez =
-        let y = s.reached (high c) (held c) in
-        record {
-          within = l;
-          reached = (y.0, from_rows y.0 y.1, y.2 ∙ ez);
-          bound = λ v k. subst (λ (n : ℤ). v x ≤ℤ n) ez (over c (v x) (s.held v (to_rows v k)));
-        }
+  pub lies_says : (by : C) (o : Option C) (r : Bool) → o ≡ Some by → Answers r ((z : ℤ) → H c z → H by z) → Answers r ((x < made_in f) × Throughout H f (λ v. HeldIn H o (v x)))
+  lies_says by o true eo w = (s.within, λ v k. subst (λ (p : Option C). HeldIn H p (v x)) (sym eo) (w (v x) (s.held v k)))
+  lies_says by o false eo w = λ all. w (λ z h.
+      let y = s.reached z h in
+      subst (λ (n : ℤ). H by n) y.2 (subst (λ (p : Option C). HeldIn H p (y.0 x)) eo (all.1 y.0 y.1)))
 
 -- one value, where the least and the greatest are the same
 pub one_value : {C : Type 0} (H : C → ℤ → Type 0) (f : Forest C) (x : ℕ) (y z : ℤ) → SFits w32 y → SFits w32 z →
@@ -184,12 +168,14 @@ one_value H f x y z fy fz s t =
 
 module _ {C : Type 0} (H : C → ℤ → Type 0) (low : C → ℤ) (held : (c : C) → H c (low c)) (proper : (c : C) (z : ℤ) → H c z → IsValue z) (f : Forest C) where
   -- a forest that has not failed allows something
-  pub some_allowed : f.failed ≡ false → (v : ℕ → ℤ) × Allows H f v
+  some_allowed : f.failed ≡ false → (v : ℕ → ℤ) × Allows H f v
   some_allowed e = let w = some_admitted H low held proper (vec_items f.rows) f.ok in (w.0, (e, w.1))
 
   pub failed_says : (b : Bool) → f.failed ≡ b → Answers b (Barren H f)
   failed_says true e = barren H f e
   failed_says false e = λ none. let w = some_allowed e in none w.0 w.1
 
-  pub lies_nowhere : (x : ℕ) (o : Option C) → f.failed ≡ false → o ≡ None → ((x < made_in f) × Throughout H f (λ v. HeldIn H o (v x))) → ⊥
-  lies_nowhere x o e eo all = let w = some_allowed e in subst (λ (p : Option C). HeldIn H p (w.0 x)) eo (all.1 w.0 w.1)
+  -- nothing lies in no content, unless nothing is left
+  pub lies_nowhere : (x : ℕ) (o : Option C) → x < made_in f → o ≡ None → (b : Bool) → f.failed ≡ b → Answers b ((x < made_in f) × Throughout H f (λ v. HeldIn H o (v x)))
+  lies_nowhere x o l eo true e = (l, λ v a. absurd (barren H f e v a))
+  lies_nowhere x o l eo false e = λ all. let w = some_allowed e in subst (λ (p : Option C). HeldIn H p (w.0 x)) eo (all.1 w.0 w.1)

@@ -1,7 +1,7 @@
 -- What a forest of classes allows: its rows, and a flag that it has failed. Assumes nothing.
-use Rattle.std.specs.Prelude.{◌≡◌, ℕ, ◌+◌, ◌<◌, Bool, true, false, ◌↔◌, ℤ, ◌≤ℤ◌, Some, None, vec_items, vec_len, Option}
+use Rattle.std.specs.Prelude.{◌≡◌, ℕ, ◌+◌, ◌<◌, ◌≤◌, Bool, false, ◌↔◌, ℤ, ◌≤ℤ◌, Some, None, vec_items, vec_len, Option, Result, Ok, Err}
 use Rattle.classes.specs.declared.forest.Forest.{Forest}
-use Rattle.classes.specs.Rows.{Admits, Valued}
+use Rattle.classes.specs.Rows.{RootSays, Admits, Valued, Contained}
 
 -- how many variables are made
 abbrev pub made_in : {C : Type 0} → Forest C → ℕ
@@ -38,9 +38,19 @@ pub record Narrowed {C : Type 0} (H : C → ℤ → Type 0) (f : Forest C) (P : 
   pub allows : (v : ℕ → ℤ) → Allows H g v ↔ (Allows H f v × P v)
 
 -- what narrowing answers: whether all that is spoken of is made; otherwise nothing changes
-abbrev pub Narrows : {C : Type 0} → (C → ℤ → Type 0) → Forest C → Type 0 → ((ℕ → ℤ) → Type 0) → Bool → Forest C → Type 0
-Narrows H f made P true g = made × Narrowed H f P g
-Narrows H f made P false g = (made → ⊥) × (g ≡ f)
+abbrev pub Narrows : {A E C : Type 0} → (C → ℤ → Type 0) → Forest C → Type 0 → ((ℕ → ℤ) → Type 0) → Result A E → Forest C → Type 0
+Narrows H f made P (Ok _) g = made × Narrowed H f P g
+Narrows H f made P (Err _) g = (made → ⊥) × (g ≡ f)
+
+-- the root of a made variable's class, or a refusal
+abbrev pub RootFound : {C E : Type 0} → Forest C → ℕ → Result ℕ E → Type 0
+RootFound f x (Ok r) = (x < made_in f) × RootSays (vec_items f.rows) x r
+RootFound f x (Err _) = made_in f ≤ x
+
+-- what a made variable's class holds, or a refusal
+abbrev pub HeldSays : {C E : Type 0} → (C → ℤ → Type 0) → Forest C → ℕ → Result C E → Type 0
+HeldSays H f x (Ok c) = (x < made_in f) × Contained H (vec_items f.rows) x c
+HeldSays H f x (Err _) = made_in f ≤ x
 
 -- P holds in every valuation that is left
 abbrev pub Throughout : {C : Type 0} → (C → ℤ → Type 0) → Forest C → ((ℕ → ℤ) → Type 0) → Type 0
@@ -49,6 +59,17 @@ Throughout H f P = (v : ℕ → ℤ) → Allows H f v → P v
 -- z is the value of x in a valuation that is left
 abbrev pub Reached : {C : Type 0} → (C → ℤ → Type 0) → Forest C → ℕ → ℤ → Type 0
 Reached H f x z = (v : ℕ → ℤ) × Allows H f v × (v x ≡ z)
+
+-- c holds exactly the values that a made variable has in the valuations that are left
+pub record RangeIs {C : Type 0} (H : C → ℤ → Type 0) (f : Forest C) (x : ℕ) (c : C) : Type 0 where
+  pub within : x < made_in f
+  pub held : Throughout H f (λ v. H c (v x))
+  pub reached : (z : ℤ) → H c z → Reached H f x z
+
+-- what a variable can be, or none where x is not made or no valuation is left
+abbrev pub RangeSays : {C : Type 0} → (C → ℤ → Type 0) → Forest C → ℕ → Option C → Type 0
+RangeSays H f x (Some c) = RangeIs H f x c
+RangeSays H f x None = x < made_in f → Barren H f
 
 -- z is the least value of a made variable
 pub record LeastIs {C : Type 0} (H : C → ℤ → Type 0) (f : Forest C) (x : ℕ) (z : ℤ) : Type 0 where

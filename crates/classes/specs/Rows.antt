@@ -43,6 +43,10 @@ pub record RootSays {C : Type 0} (rows : List (ClassRow C)) (x r : ℕ) : Type 0
   pub within : r < length rows
   pub top : parent_at rows r ≡ r
 
+-- r is a row with no row above it
+abbrev pub IsRoot : {C : Type 0} → List (ClassRow C) → ℕ → Type 0
+IsRoot rows r = (r < length rows) × (parent_at rows r ≡ r)
+
 -- each of n variables has its parent's value, and each root one that it holds
 abbrev pub Fits : ℕ → (ℕ → ℕ) → (ℕ → ℤ → Type 0) → (ℕ → ℤ) → Type 0
 Fits n p h v = (i : ℕ) → i < n → (v i ≡ v (p i)) × (p i ≡ i → h i (v i))
@@ -61,16 +65,6 @@ pub record Restricted {C : Type 0} (H : C → ℤ → Type 0) (a : List (ClassRo
   pub size : length b ≡ length a
   pub admits : (v : ℕ → ℤ) → Admits H b v ↔ (Admits H a v × P v)
 
--- none of the valuations of a has P, and b is a
-pub record Refuted {C : Type 0} (H : C → ℤ → Type 0) (a : List (ClassRow C)) (P : (ℕ → ℤ) → Type 0) (b : List (ClassRow C)) : Type 0 where
-  pub kept : b ≡ a
-  pub never : (v : ℕ → ℤ) → Admits H a v → P v → ⊥
-
--- what restricting answers: whether a valuation with P is left
-abbrev pub Restricts : {C : Type 0} → (C → ℤ → Type 0) → List (ClassRow C) → ((ℕ → ℤ) → Type 0) → Bool → List (ClassRow C) → Type 0
-Restricts H a P true b = Restricted H a P b
-Restricts H a P false b = Refuted H a P b
-
 -- two roots, one above the other, and a content that is the meeting of theirs
 pub record Linkable {C : Type 0} (H : C → ℤ → Type 0) (rows : List (ClassRow C)) (lower upper : ℕ) (c : C) : Type 0 where
   pub rooted : Rooted rows
@@ -85,7 +79,3 @@ pub record Linkable {C : Type 0} (H : C → ℤ → Type 0) (rows : List (ClassR
 pub record Contained {C : Type 0} (H : C → ℤ → Type 0) (rows : List (ClassRow C)) (x : ℕ) (c : C) : Type 0 where
   pub held : (v : ℕ → ℤ) → Admits H rows v → H c (v x)
   pub reached : (z : ℤ) → H c z → (v : ℕ → ℤ) × Admits H rows v × (v x ≡ z)
-
--- whether two variables are equal in every valuation
-abbrev pub SameSays : {C : Type 0} → (C → ℤ → Type 0) → List (ClassRow C) → ℕ → ℕ → Bool → Type 0
-SameSays H rows x y r = Answers r ((v : ℕ → ℤ) → Admits H rows v → v x ≡ v y)

@@ -8,6 +8,7 @@ use crate::row::ClassRow;
 pub mod methods;
 
 /// Variables told equal form a class. A class holds a content; nothing is admitted once `failed` is set.
+// A flag beside the rows: a failed forest goes on making and counting variables, so two variants would hold the same.
 #[derive(Drop)]
 pub struct Forest<C> {
     rows: Vec<ClassRow<C>>,
@@ -15,3 +16,7 @@ pub struct Forest<C> {
     ghost ok: { Rooted rows.items },
     ghost roomy: { 256 ≤ vec_capacity rows },
 }
+
+/// A variable is not made.
+#[derive(Clone, Copy, Debug, PartialEq)]
+pub struct NotMade;

@@ -4,5 +4,6 @@
 #![tactic(auto)]
 
 pub mod forest;
+mod pair;
 pub mod row;
 mod rows;

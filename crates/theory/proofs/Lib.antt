@@ -1,3 +1,3 @@
-pub mod Narrowing
+pub mod Claiming
 pub mod Answering
 pub mod Telling

@@ -2,3 +2,4 @@ pub mod Meanings
 pub mod Says
 pub mod Runs
 pub mod Wholes
+pub mod Claims

@@ -3,13 +3,13 @@
 ghost use Rattle.theory.specs.Wholes.{whole, means_of};
 ghost use Rattle.std.proofs.Common.{rules};
 
-use crate::classes_told::{entails, restrict};
+use crate::claim::{Claim, entails, restrict};
 use crate::interface::{RangedTheory, Theory};
 use crate::interpreted::Interpreted;
 use crate::known::is_known_all;
 use crate::told::Told;
-use classes::forest::Forest;
 use classes::forest::methods::CAPACITY;
+use classes::forest::{Forest, NotMade};
 use contents::content::Content;
 use terms::{Operand, Primitive};
 
@@ -38,19 +38,15 @@ impl<C: Interpreted> Theory for Forest<C> {
         if !is_known_all(p, self.count()) {
             return Told::Unknown;
         }
-        restrict(self, p);
-        if self.failed() {
-            Told::Failed
-        } else {
-            Told::Kept
+        match restrict(self, Claim::from(p)) {
+            Err(NotMade) => Told::Unknown,
+            Ok(()) if self.failed() => Told::Failed,
+            Ok(()) => Told::Kept,
         }
     }
 
     fn ask(&self, p: Primitive<Operand>) -> bool {
-        if !is_known_all(p, self.count()) {
-            return false;
-        }
-        entails(self, p)
+        is_known_all(p, self.count()) && entails(self, Claim::from(p))
     }
 
     fn fixed(&self, x: u8) -> bool {

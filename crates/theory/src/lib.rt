@@ -3,7 +3,7 @@
 #![tactic(auto)]
 
 pub mod bounds;
-mod classes_told;
+mod claim;
 pub mod forest_theory;
 pub mod interface;
 pub mod interpreted;

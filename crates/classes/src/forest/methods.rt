@@ -1,13 +1,15 @@
 //! What a forest is told and asked.
 
-ghost use Rattle.std.specs.Prelude.{◌≡◌, ◌<◌, true, IfOk};
+ghost use Rattle.std.specs.Prelude.{◌≡◌, ◌<◌, true, IfOk, ◌≢◌};
 ghost use Rattle.terms.specs.Answers.{Answers};
 ghost use Rattle.contents.specs.Contents.{HeldIn};
-ghost use Rattle.classes.specs.Forests.{made_in, Barren, Fresh, Grows, Narrowed, Narrows, Throughout, LeastSays, GreatestSays, OneValue};
+ghost use Rattle.classes.specs.Rows.{IsRoot};
+ghost use Rattle.classes.specs.Forests.{made_in, Barren, Fresh, Grows, Narrowed, Narrows, Throughout, LeastSays, GreatestSays, OneValue, RootFound, HeldSays, RangeSays};
 
-use super::Forest;
+use super::{Forest, NotMade};
+use crate::pair::{is_one_value, meeting};
 use crate::row::ClassRow;
-use crate::rows;
+use crate::rows::{link, standing};
 use contents::content::Content;
 use std::alloc::{AllocError, Global};
 
@@ -19,9 +21,8 @@ impl<C: Content> Forest<C> {
     pub fn new(heap: Global) -> Result<Forest<C>, AllocError>
         ensures { IfOk result (λ f. Fresh C.Content.holds f) }
     {
-        let rows = Vec::with_capacity(heap, CAPACITY)?;
         Ok(Forest {
-            rows,
+            rows: Vec::with_capacity(heap, CAPACITY)?,
             failed: false,
         })
     }
@@ -74,61 +75,53 @@ impl<C: Content> Forest<C> {
         }
     }
 
-    /// Leaves the valuations in which `a` and `b` are the same; `false`, and no change, if one of them is not made.
-    pub fn join(&mut self, a: u8, b: u8) -> bool
+    /// Leaves the valuations in which `a` and `b` are the same; refuses, and changes nothing, if one of them is not made.
+    pub fn join(&mut self, a: u8, b: u8) -> Result<(), NotMade>
         ensures { Narrows C.Content.holds self.old ((a < made_in self.old) × (b < made_in self.old)) (λ v. v a ≡ v b) result self.new }
     {
-        let count = self.rows.len();
-        if a as usize >= count || b as usize >= count {
-            return false;
+        let one = self.root(a)?;
+        let other = self.root(b)?;
+        if one != other {
+            self.unite(one, other);
         }
-        if self.failed {
-            return true;
-        }
-        let kept = rows::join(&mut self.rows, a, b);
-        self.failed = !kept;
-        true
+        Ok(())
     }
 
-    /// Leaves the valuations in which `by` holds the value of `x`; `false`, and no change, if `x` is not made.
-    pub fn confine(&mut self, x: u8, by: Option<C>) -> bool
+    /// Leaves the valuations in which `by` holds the value of `x`; refuses, and changes nothing, if `x` is not made.
+    pub fn confine(&mut self, x: u8, by: Option<C>) -> Result<(), NotMade>
         ensures { Narrows C.Content.holds self.old (x < made_in self.old) (λ v. HeldIn C.Content.holds by (v x)) result self.new }
     {
-        if x as usize >= self.rows.len() {
-            return false;
+        let top = self.root(x)?;
+        match meeting(self.rows[top as usize].content, by) {
+            Some(content) => self.rows[top as usize].content = content,
+            None => self.failed = true,
         }
-        if self.failed {
-            return true;
-        }
-        let kept = rows::confine(&mut self.rows, x, by);
-        self.failed = !kept;
-        true
+        Ok(())
     }
 
     /// Whether `a` and `b` are made, and the same in every valuation.
     pub fn same(&self, a: u8, b: u8) -> bool
         ensures { Answers result ((a < made_in self.now) × (b < made_in self.now) × Throughout C.Content.holds self.now (λ v. v a ≡ v b)) }
     {
-        let count = self.rows.len();
-        if a as usize >= count || b as usize >= count {
-            return false;
+        match (self.root(a), self.root(b)) {
+            (Ok(one), Ok(other)) if one == other => true,
+            (Ok(one), Ok(other)) => {
+                let left = self.rows[one as usize].content;
+                let right = self.rows[other as usize].content;
+                self.failed || is_one_value(left, right)
+            }
+            _ => false,
         }
-        self.failed || rows::same(&self.rows, a, b)
     }
 
     /// Whether `x` is made, and `by` holds its value in every valuation.
     pub fn lies_in(&self, x: u8, by: Option<C>) -> bool
         ensures { Answers result ((x < made_in self.now) × Throughout C.Content.holds self.now (λ v. HeldIn C.Content.holds by (v x))) }
     {
-        if x as usize >= self.rows.len() {
-            return false;
-        }
-        if self.failed {
-            return true;
-        }
-        match by {
-            Some(content) => rows::held(&self.rows, x).is_within(content),
-            None => false,
+        match (self.held(x), by) {
+            (Ok(held), Some(content)) => self.failed || held.is_within(content),
+            (Ok(_), None) => self.failed,
+            (Err(NotMade), _) => false,
         }
     }
 
@@ -136,33 +129,76 @@ impl<C: Content> Forest<C> {
     pub fn least(&self, x: u8) -> Option<i32>
         ensures { LeastSays C.Content.holds self.now x result }
     {
-        if self.failed || x as usize >= self.rows.len() {
-            return None;
-        }
-        Some(rows::held(&self.rows, x).least())
+        Some(self.range(x)?.least())
     }
 
     /// The greatest value of `x`; none if `x` is not made, or no valuation is left.
     pub fn greatest(&self, x: u8) -> Option<i32>
         ensures { GreatestSays C.Content.holds self.now x result }
     {
-        if self.failed || x as usize >= self.rows.len() {
-            return None;
-        }
-        Some(rows::held(&self.rows, x).greatest())
+        Some(self.range(x)?.greatest())
     }
 
     /// Whether `x` is made and has one value.
     pub fn fixed(&self, x: u8) -> bool
         ensures { Answers result (OneValue C.Content.holds self.now x) }
     {
+        match self.held(x) {
+            Ok(content) => self.failed || content.least() == content.greatest(),
+            Err(NotMade) => false,
+        }
+    }
+
+    /// The root of the class of `x`, if `x` is made.
+    fn root(&self, x: u8) -> Result<u8, NotMade>
+        ensures { RootFound self.now x result }
+    {
         if x as usize >= self.rows.len() {
-            return false;
+            return Err(NotMade);
         }
-        if self.failed {
-            return true;
+        let mut at = x;
+        while self.rows[at as usize].parent != at {
+            at = self.rows[at as usize].parent;
         }
-        let content = rows::held(&self.rows, x);
-        content.least() == content.greatest()
+        Ok(at)
+    }
+
+    /// What the class of `x` holds, if `x` is made.
+    fn held(&self, x: u8) -> Result<C, NotMade>
+        ensures { HeldSays C.Content.holds self.now x result }
+    {
+        let root = self.root(x)?;
+        Ok(self.rows[root as usize].content)
+    }
+
+    /// What `x` can be; none if `x` is not made, or no valuation is left.
+    fn range(&self, x: u8) -> Option<C>
+        ensures { RangeSays C.Content.holds self.now x result }
+    {
+        match self.held(x) {
+            Ok(content) if !self.failed => Some(content),
+            _ => None,
+        }
+    }
+
+    /// Leaves the valuations in which two roots are the same, with what both held for their class.
+    fn unite(&mut self, one: u8, other: u8)
+        requires first { IsRoot self.old.rows.items one }
+        requires second { IsRoot self.old.rows.items other }
+        requires apart { one ≢ other }
+        ensures { Narrowed C.Content.holds self.old (λ v. v one ≡ v other) self.new }
+    {
+        let Some(content) = self.rows[one as usize]
+            .content
+            .meet(self.rows[other as usize].content)
+        else {
+            self.failed = true;
+            return;
+        };
+        if standing(&self.rows, one) < standing(&self.rows, other) {
+            link(&mut self.rows, one, other, content);
+        } else {
+            link(&mut self.rows, other, one, content);
+        }
     }
 }

@@ -17,12 +17,13 @@ impl Ends {
         let low = least.max(LEAST_VALUE);
         let high = greatest.min(GREATEST_VALUE);
         if low > high {
-            return None;
+            None
+        } else {
+            Some(Ends {
+                least: low,
+                greatest: high,
+            })
         }
-        Some(Ends {
-            least: low,
-            greatest: high,
-        })
     }
 }
 
@@ -53,10 +54,7 @@ impl Content for Ends {
     fn meet(self, other: Ends) -> Option<Ends> {
         let least = self.least.max(other.least);
         let greatest = self.greatest.min(other.greatest);
-        if least > greatest {
-            return None;
-        }
-        Some(Ends { least, greatest })
+        Ends::between(least, greatest)
     }
 
     fn is_within(self, other: Ends) -> bool {

@@ -33,26 +33,19 @@ impl Content for Option<Number> {
     }
 
     fn meet(self, other: Option<Number>) -> Option<Option<Number>> {
-        let Some(one) = self else {
-            return Some(other);
-        };
-        let Some(two) = other else {
-            return Some(self);
-        };
-        if one.value != two.value {
-            return None;
+        match (self, other) {
+            (Some(one), Some(two)) if one.value != two.value => None,
+            (None, _) => Some(other),
+            (_, _) => Some(self),
         }
-        Some(self)
     }
 
     fn is_within(self, other: Option<Number>) -> bool {
-        let Some(two) = other else {
-            return true;
-        };
-        let Some(one) = self else {
-            return false;
-        };
-        one.value == two.value
+        match (self, other) {
+            (_, None) => true,
+            (None, Some(_)) => false,
+            (Some(one), Some(two)) => one.value == two.value,
+        }
     }
 
     fn least(self) -> i32 {

@@ -1,35 +1,45 @@
-use Rattle.std.proofs.Common.{ℕ, List, ℤ, sym, refl, ◌∙◌, subst, arith}
-use Rattle.std.proofs.lemmas.List.{with_items_is}
-use Rattle.classes.specs.declared.row.ClassRow.{ClassRow}
+use Rattle.std.proofs.Common.{◌<◌, length, vec_items, sym, refl, subst, arith}
 use Rattle.contents.specs.Contents.{HeldIn}
-use Rattle.classes.specs.Rows.{Rooted}
-use Rattle.classes.proofs.Stores.{restricts_size, restricts_rooted, narrowed_by}
+use Rattle.classes.proofs.Links.{root_value, root_held, confined}
+use Rattle.classes.proofs.Stores.{restricted, refuted, narrowed_iff}
 use Rattle.classes.proofs.forest.Forest.confine.Goals as goal
 
 pub invariant_of-self : goal.invariant_of-self
 invariant_of-self g c =
-    let rows = c.args.self.now.rows in
-    let after = c.confine-kept.new.rows in
-    let a = c.deref_mut.result.now in
-    let P : (ℕ → ℤ) → Type 0 = λ v. HeldIn g.C.Content.holds c.args.by (v c.args.x) in
-    let size = restricts_size g.C.Content.holds a P c.confine-kept.result after c.confine-kept.ensures in
-    let R : List (ClassRow g.row.C.Denot) → Type 0 = λ l. Rooted l in
+    let s = c.in_ok-top.ensures.1 in
     record {
-      ok = subst R (sym (with_items_is rows after (size ∙ c.deref_mut.ensures.len)))
-          (restricts_rooted g.C.Content.holds a P c.confine-kept.result after
-          (subst R (sym c.deref_mut.ensures.value) c.args.self.now.ok) c.confine-kept.ensures);
+      ok = (confined g.C.Content.holds (vec_items c.args.self.now.rows) g.met.C.Content.proper c.args.self.now.ok c.in_ok-top.top
+          c.index.result.now c.index_mut.result.now c.in-Some.content (HeldIn g.C.Content.holds c.args.by) (s.within, s.top)
+          c.index.ensures c.index_mut.ensures.value c.in-Some.ensures).rooted;
       roomy = c.args.self.now.roomy;
     }
 
-pub returns : goal.returns
-returns g c =
-    let rows = c.args.self.now.rows in
-    let after = c.confine-kept.new.rows in
-    let a = c.deref_mut.result.now in
-    let P : (ℕ → ℤ) → Type 0 = λ v. HeldIn g.C.Content.holds c.args.by (v c.args.x) in
-    let size = restricts_size g.C.Content.holds a P c.confine-kept.result after c.confine-kept.ensures in (
-      omega arith,
-      narrowed_by g.C.Content.holds a P c.args.self.now
-          c.confine-kept.result after c.deref_mut.ensures.value c.if-self.false c.confine-kept.ensures _
-          (with_items_is rows after (size ∙ c.deref_mut.ensures.len)) refl refl,
+pub returns-in-Some : goal.returns-in-Some
+returns-in-Some g c =
+    let H = g.C.Content.holds in
+    let f = c.args.self.now in
+    let made = c.in_ok-top.ensures.0 in
+    let len = f.rows.ok.0 in
+    let in_rows : c.args.x < length (vec_items f.rows) = omega arith in
+    let s = c.in_ok-top.ensures.1 in
+    let P = HeldIn H c.args.by in (
+      made,
+      narrowed_iff H f _ _ _
+          (λ v k. let e = root_value (vec_items f.rows) f.ok H c.args.x c.in_ok-top.top in_rows s v k.1 in (λ h. subst P (sym e) h, λ h. subst P e h))
+          (restricted H f _ _ refl _ _ refl refl refl
+          (confined H (vec_items f.rows) g.met.C.Content.proper f.ok c.in_ok-top.top c.index.result.now c.index_mut.result.now c.in-Some.content P (s.within, s.top)
+          c.index.ensures c.index_mut.ensures.value c.in-Some.ensures)),
+    )
+
+pub returns-in-None : goal.returns-in-None
+returns-in-None g c =
+    let H = g.C.Content.holds in
+    let f = c.args.self.now in
+    let made = c.in_ok-top.ensures.0 in
+    let len = f.rows.ok.0 in
+    let in_rows : c.args.x < length (vec_items f.rows) = omega arith in (
+      made,
+      refuted H f _ _ refl
+          (λ v a p. (c.in-None.ensures (v c.args.x) (a.0 c.args.x)).1
+          (root_held (vec_items f.rows) f.ok H c.args.x c.in_ok-top.top c.index.result.now in_rows c.in_ok-top.ensures.1 c.index.ensures v a, p)) refl,
     )

@@ -1,4 +1,4 @@
-use Rattle.std.proofs.Common.{sym, ◌∙◌, arith, w32, SFits, rules}
+use Rattle.std.proofs.Common.{sym, ◌∙◌, w32, SFits, rules}
 use Rattle.std.proofs.lemmas.Int.{to_z-of_z}
 use Rattle.classes.proofs.Stores.{greatest_is}
 use Rattle.classes.proofs.forest.Forest.greatest.Goals as goal
@@ -7,6 +7,5 @@ pub returns : goal.returns
 returns g c =
     let laws = g.met.C.Content in
     let fits : SFits w32 c.greatest.result = search rules in
-    greatest_is g.C.Content.holds c.args.self.now c.deref.result.now c.deref.ensures.value c.if-self.false c.args.x c.held.result
-    (omega arith) c.held.ensures g.C.Content.high (λ k. (laws.ends k).1) (λ k z h. (laws.between k z h).1) _
-    (sym (to_z-of_z w32 c.greatest.result fits ∙ c.greatest.ensures))
+    greatest_is g.C.Content.holds c.args.self.now c.args.x _ c.in_ok-range.ensures
+    g.C.Content.high (λ k. (laws.ends k).1) (λ k z h. (laws.between k z h).1) _ (sym (to_z-of_z w32 c.greatest.result fits ∙ c.greatest.ensures))

@@ -1,34 +1,27 @@
-use Rattle.std.proofs.Common.{◌≡◌, ℕ, List, ℤ, sym, refl, ◌∙◌, subst, arith}
-use Rattle.std.proofs.lemmas.List.{with_items_is}
-use Rattle.classes.specs.declared.row.ClassRow.{ClassRow}
-use Rattle.classes.specs.Rows.{Rooted}
-use Rattle.classes.proofs.Stores.{restricts_size, restricts_rooted, narrowed_by}
+use Rattle.std.proofs.Common.{◌<◌, length, vec_items, ap, arith}
+use Rattle.classes.proofs.Links.{at_roots}
+use Rattle.classes.proofs.Stores.{narrowed_iff, narrowed_not}
 use Rattle.classes.proofs.forest.Forest.join.Goals as goal
 
-pub invariant_of-self : goal.invariant_of-self
-invariant_of-self g c =
-    let rows = c.args.self.now.rows in
-    let after = c.join-kept.new.rows in
-    let a = c.deref_mut.result.now in
-    let P : (ℕ → ℤ) → Type 0 = λ v. v c.args.a ≡ v c.args.b in
-    let size = restricts_size g.C.Content.holds a P c.join-kept.result after c.join-kept.ensures in
-    let R : List (ClassRow g.row.C.Denot) → Type 0 = λ l. Rooted l in
-    record {
-      ok = subst R (sym (with_items_is rows after (size ∙ c.deref_mut.ensures.len)))
-          (restricts_rooted g.C.Content.holds a P c.join-kept.result after
-          (subst R (sym c.deref_mut.ensures.value) c.args.self.now.ok) c.join-kept.ensures);
-      roomy = c.args.self.now.roomy;
-    }
+pub returns-then-one-other : goal.returns-then-one-other
+returns-then-one-other g c =
+    let f = c.args.self.now in
+    let len = f.rows.ok.0 in
+    let a = c.in_ok-one.ensures in
+    let b = c.in_ok-other.ensures in (
+      (a.0, b.0),
+      narrowed_iff g.C.Content.holds f _ _ _
+          (λ v k. at_roots (vec_items f.rows) f.ok g.C.Content.holds c.args.a c.args.b _ _ (omega arith) (omega arith) a.1 b.1 v k.1)
+          c.unite.ensures,
+    )
 
-pub returns : goal.returns
-returns g c =
-    let rows = c.args.self.now.rows in
-    let after = c.join-kept.new.rows in
-    let a = c.deref_mut.result.now in
-    let P : (ℕ → ℤ) → Type 0 = λ v. v c.args.a ≡ v c.args.b in
-    let size = restricts_size g.C.Content.holds a P c.join-kept.result after c.join-kept.ensures in (
-      (omega arith, omega arith),
-      narrowed_by g.C.Content.holds a P c.args.self.now
-          c.join-kept.result after c.deref_mut.ensures.value c.if-self.false c.join-kept.ensures _
-          (with_items_is rows after (size ∙ c.deref_mut.ensures.len)) refl refl,
+pub returns-else-one-other : goal.returns-else-one-other
+returns-else-one-other g c =
+    let f = c.args.self.now in
+    let len = f.rows.ok.0 in
+    let a = c.in_ok-one.ensures in
+    let b = c.in_ok-other.ensures in (
+      (a.0, b.0),
+      narrowed_not g.C.Content.holds f _
+          (λ v k. (at_roots (vec_items f.rows) f.ok g.C.Content.holds c.args.a c.args.b _ _ (omega arith) (omega arith) a.1 b.1 v k.1).0 (ap v c.if-one-other.false)),
     )

@@ -1,13 +1,15 @@
-use Rattle.std.proofs.Common.{arith}
-use Rattle.classes.proofs.Stores.{lies_says, lies_nowhere}
+use Rattle.std.proofs.Common.{refl}
+use Rattle.classes.proofs.Stores.{range_is, lies_says, lies_nowhere}
 use Rattle.classes.proofs.forest.Forest.lies_in.Goals as goal
 
-pub returns-in-Some : goal.returns-in-Some
-returns-in-Some g c =
-    lies_says g.C.Content.holds c.args.self.now c.deref.result.now c.deref.ensures.value c.if-self.false c.args.x c.held.result
-    (omega arith) c.held.ensures c.in-Some.content c.args.by c.is_within.result c.in-Some.is c.is_within.ensures
+pub returns-else-self : goal.returns-else-self
+returns-else-self g c =
+    let found = c.in-Ok-Some.ensures in
+    lies_says g.C.Content.holds c.args.self.now c.args.x c.in-Ok-Some.held
+    (range_is g.C.Content.holds c.args.self.now c.if-self.false c.args.x c.in-Ok-Some.held found.0 found.1)
+    c.in-Ok-Some.content c.args.by c.is_within.result c.in-Ok-Some.is-1 c.is_within.ensures
 
-pub returns-in-None : goal.returns-in-None
-returns-in-None g c =
+pub returns-in-Ok-None : goal.returns-in-Ok-None
+returns-in-Ok-None g c =
     let laws = g.met.C.Content in
-    lies_nowhere g.C.Content.holds g.C.Content.low (λ x. (laws.ends x).0) laws.proper c.args.self.now c.args.x c.args.by c.if-self.false c.in-None.is
+    lies_nowhere g.C.Content.holds g.C.Content.low (λ x. (laws.ends x).0) laws.proper c.args.self.now c.args.x c.args.by c.in-Ok-None.ensures.0 c.in-Ok-None.is-1 _ refl
