@@ -3,3 +3,4 @@ pub mod Says
 pub mod Runs
 pub mod Wholes
 pub mod Claims
+pub mod Texts
