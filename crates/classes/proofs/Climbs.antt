@@ -2,6 +2,7 @@
 use Rattle.std.proofs.Common.{◌≡◌, ℕ, zero, suc, ◌+◌, ◌<◌, ◌≤◌, cond, eqb, ◌↔◌, ℤ, sym, refl, ap, ◌∙◌, subst, ⊎_elim, arith}
 use Rattle.std.proofs.lemmas.Bool.{cases_eq, eq-eqb, ne_eqb}
 use Rattle.classes.specs.Rows.{climb, Fits}
+use Rattle.classes.proofs.Places.{by_place, along}
 
 -- a root stays where it is
 pub climb_root : (p : ℕ → ℕ) (k r : ℕ) → p r ≡ r → climb p k r ≡ r
@@ -85,37 +86,31 @@ module _ (n : ℕ) (p q : ℕ → ℕ) (h g : ℕ → ℤ → Type 0) (lo hi : �
       both = (g_lo (v lo)).0 ((f lo in_lo).1 lo_q)
 
       fits : Fits n p h v
-      fits i l =
-          ⊎_elim
-          (λ (e : i ≡ hi). subst (λ (j : ℕ). (v j ≡ v (p j)) × (p j ≡ j → h j (v j))) (sym e)
-          (ap v (sym hi_root), λ _. subst (λ (z : ℤ). h hi z) same both.1))
-          (λ (ne : i ≡ hi → ⊥). ⊎_elim
-          (λ (e : i ≡ lo). subst (λ (j : ℕ). (v j ≡ v (p j)) × (p j ≡ j → h j (v j))) (sym e)
-          (ap v (sym lo_root), λ _. both.0))
-          (λ (no_lo : i ≡ lo → ⊥). (
-            (f i l).0 ∙ ap v (q_rest i ne),
-            λ e. subst (λ (X : Type 0). X) (g_rest i (v i) no_lo ne) ((f i l).1 (q_rest i ne ∙ e)),
+      fits =
+          by_place (λ i. i < n → (v i ≡ v (p i)) × (p i ≡ i → h i (v i))) hi
+          (λ _. (ap v (sym hi_root), λ _. subst (h hi) same both.1))
+          (λ i ne. by_place (λ j. (j ≡ hi → ⊥) → j < n → (v j ≡ v (p j)) × (p j ≡ j → h j (v j))) lo
+          (λ _ _. (ap v (sym lo_root), λ _. both.0))
+          (λ j no_lo no_hi l. (
+            (f j l).0 ∙ ap v (q_rest j no_hi),
+            λ e. along (g_rest j (v j) no_lo no_hi) ((f j l).1 (q_rest j no_hi ∙ e)),
           ))
-          (cases_eq i lo))
-          (cases_eq i hi)
+          i ne)
 
   pub joins_from : (v : ℕ → ℤ) → Fits n p h v → v lo ≡ v hi → Fits n q g v
-  joins_from v f same i l =
-      ⊎_elim
-      (λ (e : i ≡ hi). subst (λ (j : ℕ). (v j ≡ v (q j)) × (q j ≡ j → g j (v j))) (sym e)
-      (sym same ∙ ap v (sym q_hi), λ (c : q hi ≡ hi). absurd (apart (sym q_hi ∙ c))))
-      (λ (ne : i ≡ hi → ⊥). ⊎_elim
-      (λ (e : i ≡ lo). subst (λ (j : ℕ). (v j ≡ v (q j)) × (q j ≡ j → g j (v j))) (sym e) (
+  joins_from v f same =
+      by_place (λ i. i < n → (v i ≡ v (q i)) × (q i ≡ i → g i (v i))) hi
+      (λ _. (sym same ∙ ap v (sym q_hi), λ (c : q hi ≡ hi). absurd (apart (sym q_hi ∙ c))))
+      (λ i ne. by_place (λ j. (j ≡ hi → ⊥) → j < n → (v j ≡ v (q j)) × (q j ≡ j → g j (v j))) lo
+      (λ _ _. (
         ap v (sym (q_rest lo apart ∙ lo_root)),
-        λ _. (g_lo (v lo)).1
-            ((f lo in_lo).1 lo_root, subst (λ (z : ℤ). h hi z) (sym same) ((f hi top).1 hi_root)),
+        λ _. (g_lo (v lo)).1 ((f lo in_lo).1 lo_root, subst (h hi) (sym same) ((f hi top).1 hi_root)),
       ))
-      (λ (no_lo : i ≡ lo → ⊥). (
-        (f i l).0 ∙ ap v (sym (q_rest i ne)),
-        λ e. subst (λ (X : Type 0). X) (sym (g_rest i (v i) no_lo ne)) ((f i l).1 (sym (q_rest i ne) ∙ e)),
+      (λ j no_lo no_hi l. (
+        (f j l).0 ∙ ap v (sym (q_rest j no_hi)),
+        λ e. along (sym (g_rest j (v j) no_lo no_hi)) ((f j l).1 (sym (q_rest j no_hi) ∙ e)),
       ))
-      (cases_eq i lo))
-      (cases_eq i hi)
+      i ne)
 
 -- one root holds less
 module _ (n : ℕ) (p q : ℕ → ℕ) (h g : ℕ → ℤ → Type 0) (r : ℕ) (P : ℤ → Type 0) (within : r < n) (is_root : p r ≡ r)
@@ -129,19 +124,13 @@ module _ (n : ℕ) (p q : ℕ → ℕ) (h g : ℕ → ℤ → Type 0) (r : ℕ) 
       here = (g_r (v r)).0 ((f r within).1 (q_is r ∙ is_root))
 
       fits : Fits n p h v
-      fits i l = (
-        (f i l).0 ∙ ap v (q_is i),
-        λ e. ⊎_elim
-            (λ (s : i ≡ r). subst (λ (j : ℕ). h j (v j)) (sym s) here.0)
-            (λ (ne : i ≡ r → ⊥). subst (λ (X : Type 0). X) (g_rest i (v i) ne) ((f i l).1 (q_is i ∙ e)))
-            (cases_eq i r),
-      )
+      fits =
+          by_place (λ i. i < n → (v i ≡ v (p i)) × (p i ≡ i → h i (v i))) r
+          (λ l. (ap v (sym is_root), λ _. here.0))
+          (λ i ne l. ((f i l).0 ∙ ap v (q_is i), λ e. along (g_rest i (v i) ne) ((f i l).1 (q_is i ∙ e))))
 
   pub narrows_from : (v : ℕ → ℤ) → Fits n p h v → P (v r) → Fits n q g v
-  narrows_from v f c i l = (
-    (f i l).0 ∙ ap v (sym (q_is i)),
-    λ e. ⊎_elim
-        (λ (s : i ≡ r). subst (λ (j : ℕ). g j (v j)) (sym s) ((g_r (v r)).1 ((f r within).1 is_root, c)))
-        (λ (ne : i ≡ r → ⊥). subst (λ (X : Type 0). X) (sym (g_rest i (v i) ne)) ((f i l).1 (sym (q_is i) ∙ e)))
-        (cases_eq i r),
-  )
+  narrows_from v f c =
+      by_place (λ i. i < n → (v i ≡ v (q i)) × (q i ≡ i → g i (v i))) r
+      (λ l. (ap v (sym (q_is r ∙ is_root)), λ _. (g_r (v r)).1 ((f r within).1 is_root, c)))
+      (λ i ne l. ((f i l).0 ∙ ap v (sym (q_is i)), λ e. along (sym (g_rest i (v i) ne)) ((f i l).1 (sym (q_is i) ∙ e))))

@@ -1,3 +1,4 @@
+pub mod Places
 pub mod Climbs
 pub mod Fields
 pub mod Links

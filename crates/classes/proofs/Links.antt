@@ -1,15 +1,12 @@
 -- Roots of rows, and rows whose roots are linked or narrowed.
-use Rattle.std.proofs.Common.{◌≡◌, ℕ, ◌<◌, ◌≤◌, ◌↔◌, List, length, get_or, set, ℤ, Some, sym, refl, ap, ◌∙◌, subst, ⊎_elim, arith, length-set}
-use Rattle.std.proofs.lemmas.Bool.{cases_eq}
+use Rattle.std.proofs.Common.{◌≡◌, ℕ, ◌<◌, ◌≤◌, ◌↔◌, List, map, length, get_or, set, ℤ, Some, sym, refl, ap, ◌∙◌, subst, ⊎_elim, arith, length-set}
 use Rattle.terms.specs.Values.{IsValue}
 use Rattle.classes.specs.declared.row.ClassRow.{ClassRow}
 use Rattle.contents.specs.Contents.{Holding}
 use Rattle.classes.specs.Rows.{parent_at, rank_at, held_at, standing_at, Rooted, RootSays, IsRoot, root_of, steps, Fits, Admits, Restricted, Linkable}
 use Rattle.classes.proofs.Climbs.{climb_root, root_step, climb_same, root_holds, extends, joins_to, joins_from, narrows_to, narrows_from}
+use Rattle.classes.proofs.Places.{by_place, along}
 use Rattle.classes.proofs.Fields.{field_read, field_at, field_set_same, field_set_other}
-
-pub along : {A B : Type 0} → A ≡ B → A → B
-along e a = subst (λ (X : Type 0). X) e a
 
 -- what a row says, by place
 pub parent_read : {C : Type 0} (rows : List (ClassRow C)) (i : ℕ) (d : ClassRow C) → i < length rows → d ≡ get_or rows i d →
@@ -102,196 +99,151 @@ module _ {C : Type 0} (rows : List (ClassRow C)) (down : Rooted rows) where
       let y = root_value H b t lb sb v f in
       (λ e. x ∙ (e ∙ sym y), λ e. sym x ∙ (e ∙ y))
 
-module _ {C : Type 0} (H : C → ℤ → Type 0) (rows : List (ClassRow C)) where
-  pub linked : (lower upper : ℕ) (c : C) → Linkable H rows lower upper c → (one two : ClassRow C) → one.parent ≡ upper → one.rank ≡ rank_at rows lower →
-      two.parent ≡ upper → rank_at rows upper ≤ two.rank → two.rank < 256 → two.content ≡ c →
-      Restricted H rows (λ v. v lower ≡ v upper) (set (set rows lower one) upper two)
-  linked lower upper c k one two e1 r1 e2 r2 small ec =
+-- rows whose root `lower` is put below the root `upper`, field by field
+module _ {C : Type 0} (H : C → ℤ → Type 0) (rows out : List (ClassRow C)) (lower upper : ℕ) (c : C) (k : Linkable H rows lower upper c)
+    (len : length out ≡ length rows)
+    (q_lower : parent_at out lower ≡ upper) (q_rest : (i : ℕ) → (i ≡ lower → ⊥) → parent_at out i ≡ parent_at rows i)
+    (s_upper : rank_at rows upper ≤ rank_at out upper) (small : rank_at out upper < 256)
+    (s_rest : (i : ℕ) → (i ≡ upper → ⊥) → rank_at out i ≡ rank_at rows i)
+    (g_upper : (z : ℤ) → held_at H out upper z ≡ H c z)
+    (g_rest : (i : ℕ) (z : ℤ) → (i ≡ upper → ⊥) → (i ≡ lower → ⊥) → held_at H out i z ≡ held_at H rows i z) where
+  apart_at : upper ≡ lower → ⊥
+  apart_at e = let u = k.under in let s = ap (standing_at rows) e in omega arith
+
+  -- no row stands lower than before
+  s_more : (i : ℕ) → rank_at rows i ≤ rank_at out i
+  s_more = by_place (λ i. rank_at rows i ≤ rank_at out i) upper s_upper (λ i ne. omega (arith, s_rest i ne))
+
+  new_in : (i : ℕ) → i < length rows → parent_at out i < length rows
+  new_in =
+      by_place (λ i. i < length rows → parent_at out i < length rows) lower
+      (λ l. let u = k.upper_in in omega (arith, q_lower))
+      (λ i ne l. let o = (k.rooted.1 i l).0 in omega (arith, q_rest i ne))
+
+  new_rises : (i : ℕ) → i < length rows → standing_at out i ≤ standing_at out (parent_at out i)
+  new_rises =
+      by_place (λ i. i < length rows → standing_at out i ≤ standing_at out (parent_at out i)) lower
+      (λ l.
+      let q = ap (standing_at out) q_lower in let u = k.under in
+      let x = s_rest lower (λ f. apart_at (sym f)) in let y = s_more upper in omega arith)
+      (λ i ne l. by_place (λ j. (j ≡ lower → ⊥) → j < length rows → standing_at out j ≤ standing_at out (parent_at out j)) upper
+      (λ no_lower m. let q = ap (standing_at out) (q_rest upper no_lower ∙ k.upper_top) in omega arith)
+      (λ j no_upper no_lower m.
+      let o = (k.rooted.1 j m).1 in
+      let q = ap (standing_at out) (q_rest j no_lower) in
+      let x = s_rest j no_upper in let y = s_more (parent_at rows j) in omega arith)
+      i ne l)
+
+  new_rank : (i : ℕ) → i < length rows → rank_at out i < 256
+  new_rank =
+      by_place (λ i. i < length rows → rank_at out i < 256) upper (λ _. small)
+      (λ i ne l. let o = (k.rooted.1 i l).2 in omega (arith, s_rest i ne))
+
+  both_held : (z : ℤ) → held_at H out upper z ↔ (held_at H rows upper z × held_at H rows lower z)
+  both_held z = (
+    λ a. let m = (k.meets z).0 (along (g_upper z) a) in (m.1, m.0),
+    λ b. along (sym (g_upper z)) ((k.meets z).1 (b.1, b.0)),
+  )
+
+  linked_rows : Restricted H rows (λ v. v lower ≡ v upper) out
+  linked_rows =
       record {
-        rooted = down;
+        rooted = (
+          let n = k.rooted.0 in omega (arith, len),
+          λ i l. let below : i < length rows = omega (arith, len) in (let d = new_in i below in omega (arith, len), new_rises i below, new_rank i below),
+        );
         size = len;
         admits = λ v. (
-          λ f. let y = joins_to n p q h g upper lower apart k.upper_in k.lower_in k.upper_top k.lower_top q_lower q_rest g_upper g_rest v (to_n v f.1) in
+          λ f. let y = joins_to (length rows) (parent_at rows) (parent_at out) (held_at H rows) (held_at H out) upper lower apart_at k.upper_in k.lower_in
+              k.upper_top k.lower_top q_lower q_rest both_held g_rest v (λ i l. f.1 i (omega (arith, len))) in
               ((f.0, y.0), sym y.1),
-          λ fs. (fs.0.0, from_n v (joins_from n p q h g upper lower apart k.upper_in k.lower_in k.upper_top k.lower_top q_lower q_rest g_upper g_rest v fs.0.1 (sym fs.1))),
+          λ fs. (
+            fs.0.0,
+            λ i l. joins_from (length rows) (parent_at rows) (parent_at out) (held_at H rows) (held_at H out) upper lower apart_at k.upper_in k.lower_in
+                k.upper_top k.lower_top q_lower q_rest both_held g_rest v fs.0.1 (sym fs.1) i (omega (arith, len)),
+          ),
         );
       }
-    where
-      out : List (ClassRow C)
-      out = set (set rows lower one) upper two
 
-      n : ℕ
-      n = length rows
+-- rows whose root `r` holds less, field by field
+module _ {C : Type 0} (H : C → ℤ → Type 0) (rows out : List (ClassRow C)) (r : ℕ) (c : C) (P : ℤ → Type 0) (old : Rooted rows) (k : IsRoot rows r)
+    (meets : (z : ℤ) → H c z ↔ (held_at H rows r z × P z))
+    (len : length out ≡ length rows)
+    (q_is : (i : ℕ) → parent_at out i ≡ parent_at rows i) (s_is : (i : ℕ) → rank_at out i ≡ rank_at rows i)
+    (g_r : (z : ℤ) → held_at H out r z ≡ H c z)
+    (g_rest : (i : ℕ) (z : ℤ) → (i ≡ r → ⊥) → held_at H out i z ≡ held_at H rows i z) where
+  less_held : (z : ℤ) → held_at H out r z ↔ (held_at H rows r z × P z)
+  less_held z = (λ a. (meets z).0 (along (g_r z) a), λ b. along (sym (g_r z)) ((meets z).1 b))
 
-      p : ℕ → ℕ
-      p = parent_at rows
-
-      q : ℕ → ℕ
-      q = parent_at (set (set rows lower one) upper two)
-
-      h : ℕ → ℤ → Type 0
-      h = held_at H rows
-
-      g : ℕ → ℤ → Type 0
-      g = held_at H (set (set rows lower one) upper two)
-
-      apart : upper ≡ lower → ⊥
-      apart e = let u = k.under in let s = ap (standing_at rows) e in omega arith
-
-      len : length (set (set rows lower one) upper two) ≡ length rows
-      len = length-set (set rows lower one) upper two ∙ length-set rows lower one
-
-      upper_in : upper < length (set rows lower one)
-      upper_in = simp length-set k.upper_in
-
-      q_lower : parent_at (set (set rows lower one) upper two) lower ≡ upper
-      q_lower = field_set_other (λ r. r.parent) (set rows lower one) upper lower two lower (λ e. apart (sym e)) ∙ (field_set_same (λ r. r.parent) rows lower one lower k.lower_in ∙ e1)
-
-      q_upper : parent_at (set (set rows lower one) upper two) upper ≡ upper
-      q_upper = field_set_same (λ r. r.parent) (set rows lower one) upper two upper upper_in ∙ e2
-
-      q_rest : (i : ℕ) → (i ≡ lower → ⊥) → parent_at (set (set rows lower one) upper two) i ≡ parent_at rows i
-      q_rest i ne =
-          ⊎_elim
-          (λ (e : i ≡ upper). subst (λ (j : ℕ). parent_at (set (set rows lower one) upper two) j ≡ parent_at rows j) (sym e) (q_upper ∙ sym k.upper_top))
-          (λ (no_upper : i ≡ upper → ⊥). field_set_other (λ r. r.parent) (set rows lower one) upper i two i no_upper ∙ field_set_other (λ r. r.parent) rows lower i one i ne)
-          (cases_eq i upper)
-
-      s_upper : rank_at (set (set rows lower one) upper two) upper ≡ two.rank
-      s_upper = field_set_same (λ r. r.rank) (set rows lower one) upper two 0 upper_in
-
-      s_rest : (i : ℕ) → (i ≡ upper → ⊥) → rank_at (set (set rows lower one) upper two) i ≡ rank_at rows i
-      s_rest i ne =
-          field_set_other (λ r. r.rank) (set rows lower one) upper i two 0 ne ∙
-          ⊎_elim
-          (λ (e : i ≡ lower). subst (λ (j : ℕ). rank_at (set rows lower one) j ≡ rank_at rows j) (sym e) (field_set_same (λ r. r.rank) rows lower one 0 k.lower_in ∙ r1))
-          (λ (no_lower : i ≡ lower → ⊥). field_set_other (λ r. r.rank) rows lower i one 0 no_lower)
-          (cases_eq i lower)
-
-      -- no row stands lower than before
-      s_more : (i : ℕ) → rank_at rows i ≤ rank_at (set (set rows lower one) upper two) i
-      s_more i =
-          ⊎_elim
-          (λ (e : i ≡ upper). subst (λ (j : ℕ). rank_at rows j ≤ rank_at (set (set rows lower one) upper two) j) (sym e) (omega (arith, s_upper)))
-          (λ (ne : i ≡ upper → ⊥). omega (arith, s_rest i ne))
-          (cases_eq i upper)
-
-      g_is : (z : ℤ) → held_at H (set (set rows lower one) upper two) upper z ≡ H c z
-      g_is z = field_set_same (λ r. H r.content z) (set rows lower one) upper two ⊥ upper_in ∙ ap (λ y. H y z) ec
-
-      g_upper : (z : ℤ) → held_at H (set (set rows lower one) upper two) upper z ↔ (held_at H rows upper z × held_at H rows lower z)
-      g_upper z = (
-        λ a. let m = (k.meets z).0 (along (g_is z) a) in (m.1, m.0),
-        λ b. along (sym (g_is z)) ((k.meets z).1 (b.1, b.0)),
-      )
-
-      g_rest : (i : ℕ) (z : ℤ) → (i ≡ upper → ⊥) → (i ≡ lower → ⊥) → held_at H (set (set rows lower one) upper two) i z ≡ held_at H rows i z
-      g_rest i z no_upper no_lower =
-          field_set_other (λ r. H r.content z) (set rows lower one) upper i two ⊥ no_upper ∙
-          field_set_other (λ r. H r.content z) rows lower i one ⊥ no_lower
-
-      new_in : (i : ℕ) → i < length rows → parent_at (set (set rows lower one) upper two) i < length rows
-      new_in i l =
-          ⊎_elim
-          (λ (e : i ≡ lower). subst (λ (j : ℕ). parent_at (set (set rows lower one) upper two) j < length rows) (sym e) (let u = k.upper_in in omega (arith, q_lower)))
-          (λ (ne : i ≡ lower → ⊥). let o = (k.rooted.1 i l).0 in omega (arith, q_rest i ne))
-          (cases_eq i lower)
-
-      new_rises : (i : ℕ) → i < length rows →
-          standing_at (set (set rows lower one) upper two) i ≤ standing_at (set (set rows lower one) upper two) (parent_at (set (set rows lower one) upper two) i)
-      new_rises i l =
-          ⊎_elim
-          (λ (e : i ≡ upper). subst (λ (j : ℕ). standing_at (set (set rows lower one) upper two) j ≤ standing_at (set (set rows lower one) upper two) (parent_at (set (set rows lower one) upper two) j)) (sym e)
-          (let q = ap (standing_at (set (set rows lower one) upper two)) q_upper in omega arith))
-          (λ (no_upper : i ≡ upper → ⊥). ⊎_elim
-          (λ (e : i ≡ lower). subst (λ (j : ℕ). standing_at (set (set rows lower one) upper two) j ≤ standing_at (set (set rows lower one) upper two) (parent_at (set (set rows lower one) upper two) j)) (sym e)
-          (let q = ap (standing_at (set (set rows lower one) upper two)) q_lower in let u = k.under in
-          let x = s_rest lower (λ f. apart (sym f)) in let y = s_more upper in omega arith))
-          (λ (ne : i ≡ lower → ⊥).
-          let o = (k.rooted.1 i l).1 in
-          let q = ap (standing_at (set (set rows lower one) upper two)) (q_rest i ne) in
-          let x = s_rest i no_upper in let y = s_more (parent_at rows i) in omega arith)
-          (cases_eq i lower))
-          (cases_eq i upper)
-
-      new_rank : (i : ℕ) → i < length rows → rank_at (set (set rows lower one) upper two) i < 256
-      new_rank i l =
-          ⊎_elim
-          (λ (e : i ≡ upper). subst (λ (j : ℕ). rank_at (set (set rows lower one) upper two) j < 256) (sym e) (omega (arith, s_upper)))
-          (λ (ne : i ≡ upper → ⊥). let o = (k.rooted.1 i l).2 in omega (arith, s_rest i ne))
-          (cases_eq i upper)
-
-      down : Rooted (set (set rows lower one) upper two)
-      down = (
-        let n = k.rooted.0 in omega (arith, len),
-        λ i l. let below : i < length rows = omega (arith, len) in (let d = new_in i below in omega (arith, len), new_rises i below, new_rank i below),
-      )
-
-      to_n : (v : ℕ → ℤ) → Fits (length (set (set rows lower one) upper two)) q g v → Fits n q g v
-      to_n v f i l = f i (omega (arith, len))
-
-      from_n : (v : ℕ → ℤ) → Fits n q g v → Fits (length (set (set rows lower one) upper two)) q g v
-      from_n v f i l = f i (omega (arith, len))
-
-  pub narrowed : Rooted rows → (r : ℕ) (c : C) (P : ℤ → Type 0) → r < length rows → parent_at rows r ≡ r →
-      ((z : ℤ) → H c z ↔ (held_at H rows r z × P z)) → (one : ClassRow C) → one.parent ≡ r → one.rank ≡ rank_at rows r → one.content ≡ c →
-      Restricted H rows (λ v. P (v r)) (set rows r one)
-  narrowed old r c P within is_root meets one e1 r1 ec =
+  narrowed_rows : Restricted H rows (λ v. P (v r)) out
+  narrowed_rows =
       record {
         rooted = (
           let n = old.0 in omega (arith, len),
           λ i l.
               let b = old.1 i (omega (arith, len)) in
-              let q = ap (standing_at (set rows r one)) (q_is i) in
+              let q = ap (standing_at out) (q_is i) in
               let x = s_is i in let y = s_is (parent_at rows i) in
               (omega (arith, len, q_is i), omega arith, omega arith),
         );
-        size = length-set rows r one;
+        size = len;
         admits = λ v. (
-          λ f. let y = narrows_to (length rows) (parent_at rows) (parent_at (set rows r one)) (held_at H rows) (held_at H (set rows r one))
-              r P within is_root q_is g_r g_rest v (λ i l. f.1 i (omega (arith, len))) in ((f.0, y.0), y.1),
+          λ f. let y = narrows_to (length rows) (parent_at rows) (parent_at out) (held_at H rows) (held_at H out)
+              r P k.0 k.1 q_is less_held g_rest v (λ i l. f.1 i (omega (arith, len))) in ((f.0, y.0), y.1),
           λ fs. (
             fs.0.0,
-            λ i l. narrows_from (length rows) (parent_at rows) (parent_at (set rows r one)) (held_at H rows) (held_at H (set rows r one))
-                r P within is_root q_is g_r g_rest v fs.0.1 fs.1 i (omega (arith, len)),
+            λ i l. narrows_from (length rows) (parent_at rows) (parent_at out) (held_at H rows) (held_at H out)
+                r P k.0 k.1 q_is less_held g_rest v fs.0.1 fs.1 i (omega (arith, len)),
           ),
         );
       }
-    where
-      len : length (set rows r one) ≡ length rows
-      len = length-set rows r one
 
-      q_is : (i : ℕ) → parent_at (set rows r one) i ≡ parent_at rows i
-      q_is i =
-          ⊎_elim
-          (λ (e : i ≡ r). subst (λ (j : ℕ). parent_at (set rows r one) j ≡ parent_at rows j) (sym e)
-          (field_set_same (λ x. x.parent) rows r one r within ∙ (e1 ∙ sym is_root)))
-          (λ (ne : i ≡ r → ⊥). field_set_other (λ x. x.parent) rows r i one i ne)
-          (cases_eq i r)
+-- a field of rows of which two were set, at the last one set and elsewhere
+module _ {ℓ} {C : Type 0} {Y : Type ℓ} (f : ClassRow C → Y) (rows : List (ClassRow C)) (lower upper : ℕ) (one two : ClassRow C) (d : Y) where
+  same_upper : upper < length rows → get_or (map f (set (set rows lower one) upper two)) upper d ≡ f two
+  same_upper l = field_set_same f (set rows lower one) upper two d (simp length-set l)
 
-      s_is : (i : ℕ) → rank_at (set rows r one) i ≡ rank_at rows i
-      s_is i =
-          ⊎_elim
-          (λ (e : i ≡ r). subst (λ (j : ℕ). rank_at (set rows r one) j ≡ rank_at rows j) (sym e)
-          (field_set_same (λ x. x.rank) rows r one 0 within ∙ r1))
-          (λ (ne : i ≡ r → ⊥). field_set_other (λ x. x.rank) rows r i one 0 ne)
-          (cases_eq i r)
+  other_upper : (i : ℕ) → (i ≡ upper → ⊥) → get_or (map f (set (set rows lower one) upper two)) i d ≡ get_or (map f (set rows lower one)) i d
+  other_upper i ne = field_set_other f (set rows lower one) upper i two d ne
 
-      g_is : (z : ℤ) → held_at H (set rows r one) r z ≡ H c z
-      g_is z = field_set_same (λ x. H x.content z) rows r one ⊥ within ∙ ap (λ y. H y z) ec
+module _ {C : Type 0} (H : C → ℤ → Type 0) (rows : List (ClassRow C)) where
+  pub linked : (lower upper : ℕ) (c : C) → Linkable H rows lower upper c → (one two : ClassRow C) → one.parent ≡ upper → one.rank ≡ rank_at rows lower →
+      two.parent ≡ upper → rank_at rows upper ≤ two.rank → two.rank < 256 → two.content ≡ c →
+      Restricted H rows (λ v. v lower ≡ v upper) (set (set rows lower one) upper two)
+  linked lower upper c k one two e1 r1 e2 r2 small ec =
+      let low : lower ≡ upper → ⊥ = λ e. let u = k.under in let s = ap (standing_at rows) e in omega arith in
+      let rank = same_upper (λ r. r.rank) rows lower upper one two 0 k.upper_in in
+      linked_rows H rows (set (set rows lower one) upper two) lower upper c k
+      (length-set (set rows lower one) upper two ∙ length-set rows lower one)
+      (other_upper (λ r. r.parent) rows lower upper one two lower lower low ∙ (field_set_same (λ r. r.parent) rows lower one lower k.lower_in ∙ e1))
+      (by_place (λ i. (i ≡ lower → ⊥) → parent_at (set (set rows lower one) upper two) i ≡ parent_at rows i) upper
+      (λ _. same_upper (λ r. r.parent) rows lower upper one two upper k.upper_in ∙ (e2 ∙ sym k.upper_top))
+      (λ i ne no_lower. other_upper (λ r. r.parent) rows lower upper one two i i ne ∙ field_set_other (λ r. r.parent) rows lower i one i no_lower))
+      (omega arith)
+      (omega arith)
+      (λ i ne. other_upper (λ r. r.rank) rows lower upper one two 0 i ne ∙
+      by_place (λ j. rank_at (set rows lower one) j ≡ rank_at rows j) lower (field_set_same (λ r. r.rank) rows lower one 0 k.lower_in ∙ r1)
+      (λ j no_lower. field_set_other (λ r. r.rank) rows lower j one 0 no_lower) i)
+      (λ z. same_upper (λ r. H r.content z) rows lower upper one two ⊥ k.upper_in ∙ ap (λ y. H y z) ec)
+      (λ i z ne no_lower. other_upper (λ r. H r.content z) rows lower upper one two ⊥ i ne ∙ field_set_other (λ r. H r.content z) rows lower i one ⊥ no_lower)
 
-      g_r : (z : ℤ) → held_at H (set rows r one) r z ↔ (held_at H rows r z × P z)
-      g_r z = (λ a. (meets z).0 (along (g_is z) a), λ b. along (sym (g_is z)) ((meets z).1 b))
-
-      g_rest : (i : ℕ) (z : ℤ) → (i ≡ r → ⊥) → held_at H (set rows r one) i z ≡ held_at H rows i z
-      g_rest i z ne = field_set_other (λ x. H x.content z) rows r i one ⊥ ne
+  narrowed : Rooted rows → (r : ℕ) (c : C) (P : ℤ → Type 0) → IsRoot rows r → ((z : ℤ) → H c z ↔ (held_at H rows r z × P z)) →
+      (one : ClassRow C) → one.parent ≡ r → one.rank ≡ rank_at rows r → one.content ≡ c → Restricted H rows (λ v. P (v r)) (set rows r one)
+  narrowed old r c P k meets one e1 r1 ec =
+      narrowed_rows H rows (set rows r one) r c P old k meets (length-set rows r one)
+      (by_place (λ i. parent_at (set rows r one) i ≡ parent_at rows i) r
+      (field_set_same (λ x. x.parent) rows r one r k.0 ∙ (e1 ∙ sym k.1)) (λ i ne. field_set_other (λ x. x.parent) rows r i one i ne))
+      (by_place (λ i. rank_at (set rows r one) i ≡ rank_at rows i) r
+      (field_set_same (λ x. x.rank) rows r one 0 k.0 ∙ r1) (λ i ne. field_set_other (λ x. x.rank) rows r i one 0 ne))
+      (λ z. field_set_same (λ x. H x.content z) rows r one ⊥ k.0 ∙ ap (λ y. H y z) ec)
+      (λ i z ne. field_set_other (λ x. H x.content z) rows r i one ⊥ ne)
 
   -- a root that holds what it did and has P holds the values of its class that have P
   pub confined : ((c : C) (z : ℤ) → H c z → IsValue z) → Rooted rows → (r : ℕ) (d m : ClassRow C) (c : C) (P : ℤ → Type 0) → IsRoot rows r →
       d ≡ get_or rows r d → m ≡ get_or rows r m → Holding H (λ z. H d.content z × P z) (Some c) →
       Restricted H rows (λ v. P (v r)) (set rows r (record { parent = m.parent; rank = m.rank; content = c }))
   confined proper down r d m c P k ed em meet =
-      narrowed down r c P k.0 k.1
+      narrowed down r c P k
       (λ z. let both = meets H proper P d.content c meet z in (
         λ h. let p = both.0 h in (along (sym (held_read H rows r d z k.0 ed)) p.0, p.1),
         λ p. both.1 (along (held_read H rows r d z k.0 ed) p.0, p.1),

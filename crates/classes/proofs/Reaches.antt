@@ -1,5 +1,5 @@
 -- Valuations of rows: any held value for each root makes one.
-use Rattle.std.proofs.Common.{◌≡◌, ℕ, zero, suc, ◌<◌, List, [], ◌∷◌, map, length, get_or, Bool, true, false, ℤ, pos, sym, ◌∙◌, subst, ⊎_elim, arith}
+use Rattle.std.proofs.Common.{◌≡◌, ℕ, zero, suc, ◌<◌, List, [], ◌∷◌, map, length, get_or, Bool, true, false, ℤ, pos, sym, refl, ◌∙◌, subst, ⊎_elim, arith}
 use Rattle.std.proofs.lemmas.Int.{ints}
 use Rattle.std.proofs.lemmas.Bool.{cases_eq}
 use Rattle.terms.specs.Answers.{Answers}
@@ -7,7 +7,8 @@ use Rattle.terms.specs.Values.{IsValue}
 use Rattle.classes.specs.declared.row.ClassRow.{ClassRow}
 use Rattle.classes.specs.Rows.{held_at, Rooted, RootSays, root_of, Valued, Admits, Contained}
 use Rattle.classes.proofs.Climbs.{put, put_same, put_other}
-use Rattle.classes.proofs.Links.{along, held_read, root_held, chosen}
+use Rattle.classes.proofs.Places.{along, by_place}
+use Rattle.classes.proofs.Links.{held_read, root_held, chosen}
 
 module _ {C : Type 0} (H : C → ℤ → Type 0) (low : C → ℤ) (held : (c : C) → H c (low c)) (proper : (c : C) (z : ℤ) → H c z → IsValue z) where
   -- the least value that each row holds
@@ -26,18 +27,15 @@ module _ {C : Type 0} (H : C → ℤ → Type 0) (low : C → ℤ) (held : (c : 
 
   put_held : (rows : List (ClassRow C)) (w : ℕ → ℤ) (r : ℕ) (z : ℤ) → held_at H rows r z →
       ((i : ℕ) → i < length rows → held_at H rows i (w i)) → (i : ℕ) → i < length rows → held_at H rows i (put w r z i)
-  put_held rows w r z hz c i l =
-      ⊎_elim
-      (λ (q : i ≡ r). subst (λ (y : ℤ). held_at H rows i y) (sym (put_same w r z i q)) (subst (λ (j : ℕ). held_at H rows j z) (sym q) hz))
-      (λ (ne : i ≡ r → ⊥). subst (λ (y : ℤ). held_at H rows i y) (sym (put_other w r z i ne)) (c i l))
-      (cases_eq i r)
+  put_held rows w r z hz c =
+      by_place (λ i. i < length rows → held_at H rows i (put w r z i)) r
+      (λ _. subst (held_at H rows r) (sym (put_same w r z r refl)) hz)
+      (λ i ne l. subst (held_at H rows i) (sym (put_other w r z i ne)) (c i l))
 
   put_valued : (w : ℕ → ℤ) (r : ℕ) (z : ℤ) → IsValue z → Valued w → Valued (put w r z)
-  put_valued w r z p c i =
-      ⊎_elim
-      (λ (q : i ≡ r). subst (λ (y : ℤ). IsValue y) (sym (put_same w r z i q)) p)
-      (λ (ne : i ≡ r → ⊥). subst (λ (y : ℤ). IsValue y) (sym (put_other w r z i ne)) (c i))
-      (cases_eq i r)
+  put_valued w r z p c =
+      by_place (λ i. IsValue (put w r z i)) r (subst IsValue (sym (put_same w r z r refl)) p)
+      (λ i ne. subst IsValue (sym (put_other w r z i ne)) (c i))
 
   module _ (rows : List (ClassRow C)) (down : Rooted rows) where
     choose : (w : ℕ → ℤ) → Valued w → ((i : ℕ) → i < length rows → held_at H rows i (w i)) → Admits H rows (λ i. w (root_of rows i))

@@ -11,7 +11,7 @@ use Rattle.contents.specs.Contents.{HeldIn}
 use Rattle.classes.specs.Rows.{parent_at, rank_at, held_at, standing_at, Rooted, RootSays, Admits, Restricted, Contained}
 use Rattle.classes.specs.Forests.{made_in, Allows, Barren, Grown, Narrowed, Throughout, RangeIs, LeastIs, GreatestIs, OneValue}
 use Rattle.classes.proofs.Fields.{field_low, field_last}
-use Rattle.classes.proofs.Links.{along}
+use Rattle.classes.proofs.Places.{along, by_place}
 use Rattle.classes.proofs.Reaches.{some_admitted}
 use Rattle.contents.proofs.Signs.{answers_bits, answers_iff}
 
@@ -72,19 +72,15 @@ module _ {C : Type 0} (H : C → ℤ → Type 0) (rows : List (ClassRow C)) (r :
   pushed_rooted few down =
       let n : length (rows ++ r ∷ []) ≡ length rows + 1 = length_push rows r in (
         omega arith,
-        λ i l.
-            ⊎_elim
-            (λ (e : i ≡ length rows). subst Fine (sym e)
-            (let q = ap (standing_at (rows ++ r ∷ [])) pushed_last in
-            (omega (arith, pushed_last), omega arith, omega (arith, rank_last))))
-            (λ (ne : i ≡ length rows → ⊥).
+        by_place (λ i. i < length (rows ++ r ∷ []) → Fine i) (length rows)
+            (λ _. let q = ap (standing_at (rows ++ r ∷ [])) pushed_last in (omega (arith, pushed_last), omega arith, omega (arith, rank_last)))
+            (λ i ne l.
             let k : i < length rows = omega arith in
             let d = down.1 i k in
             let q = ap (standing_at (rows ++ r ∷ [])) (pushed_low i k) in
             let m = rank_low i k in
             let p = rank_low (parent_at rows i) d.0 in
-            (omega (arith, pushed_low i k), omega arith, omega arith))
-            (cases_eq i (length rows)),
+            (omega (arith, pushed_low i k), omega arith, omega arith)),
       )
 
   pub pushed_to : (v : ℕ → ℤ) → Admits H (rows ++ r ∷ []) v → Admits H rows v
@@ -101,17 +97,13 @@ module _ {C : Type 0} (H : C → ℤ → Type 0) (rows : List (ClassRow C)) (r :
   pushed_from all v f =
       let n : length (rows ++ r ∷ []) ≡ length rows + 1 = length_push rows r in (
         f.0,
-        λ i l.
-            ⊎_elim
-            (λ (e : i ≡ length rows). subst
-            (λ (j : ℕ). (v j ≡ v (parent_at (rows ++ r ∷ []) j)) × (parent_at (rows ++ r ∷ []) j ≡ j → held_at H (rows ++ r ∷ []) j (v j))) (sym e)
-            (ap v (sym pushed_last), λ _. along (sym (field_last (λ x. H x.content (v (length rows))) rows r ⊥)) (all (v (length rows)) (f.0 (length rows)))))
-            (λ (ne : i ≡ length rows → ⊥).
+        by_place (λ i. i < length (rows ++ r ∷ []) → (v i ≡ v (parent_at (rows ++ r ∷ []) i)) × (parent_at (rows ++ r ∷ []) i ≡ i → held_at H (rows ++ r ∷ []) i (v i))) (length rows)
+            (λ _. (ap v (sym pushed_last), λ _. along (sym (field_last (λ x. H x.content (v (length rows))) rows r ⊥)) (all (v (length rows)) (f.0 (length rows)))))
+            (λ i ne l.
             let k : i < length rows = omega arith in (
               (f.1 i k).0 ∙ ap v (sym (pushed_low i k)),
               λ e. along (sym (field_low (λ x. H x.content (v i)) rows r i ⊥ k)) ((f.1 i k).1 (sym (pushed_low i k) ∙ e)),
-            ))
-            (cases_eq i (length rows)),
+            )),
       )
 
 pub grown : {C : Type 0} (H : C → ℤ → Type 0) (f : Forest C) (r : ClassRow C) (x : ℕ) (g : Forest C) → x ≡ vec_len f.rows →
