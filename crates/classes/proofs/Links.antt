@@ -1,5 +1,5 @@
 -- Roots of rows, and rows whose roots are linked or narrowed.
-use Rattle.std.proofs.Common.{◌≡◌, ℕ, ◌<◌, ◌≤◌, ◌↔◌, List, map, length, get_or, set, ℤ, Some, sym, refl, ap, ◌∙◌, subst, ⊎_elim, arith, length-set}
+use Rattle.std.proofs.Common.{◌≡◌, ℕ, ◌<◌, ◌≤◌, ◌↔◌, List, map, length, get_or, set, ℤ, Some, sym, refl, ap, ◌∙◌, subst, arith, length-set}
 use Rattle.terms.specs.Values.{IsValue}
 use Rattle.classes.specs.declared.row.ClassRow.{ClassRow}
 use Rattle.contents.specs.Contents.{Holding}

@@ -1,6 +1,6 @@
 -- A forest that is narrowed, grown or asked, from what its rows admit.
-use Rattle.std.proofs.Common.{◌≡◌, ℕ, ◌+◌, ◌<◌, ◌≤◌, Bool, true, false, eqb, ◌↔◌, List, [], ◌∷◌, ◌++◌, length, ℤ, ◌≤ℤ◌, Some, None, vec_items, vec_len, Option, sym, refl, ap, ◌∙◌, subst, ⊎_elim, arith, w32, SFits, of_z}
-use Rattle.std.proofs.lemmas.Bool.{cases_eq, true≢false}
+use Rattle.std.proofs.Common.{◌≡◌, ℕ, ◌+◌, ◌<◌, ◌≤◌, Bool, true, false, eqb, ◌↔◌, List, [], ◌∷◌, ◌++◌, length, ℤ, ◌≤ℤ◌, Some, None, vec_items, vec_len, Option, sym, refl, ap, ◌∙◌, subst, arith, w32, SFits, of_z}
+use Rattle.std.proofs.lemmas.Bool.{true≢false}
 use Rattle.std.proofs.lemmas.Int.{ints}
 use Rattle.std.proofs.lemmas.List.{length_push}
 use Rattle.terms.specs.Answers.{Answers}
@@ -8,7 +8,7 @@ use Rattle.terms.specs.Values.{IsValue}
 use Rattle.classes.specs.declared.row.ClassRow.{ClassRow}
 use Rattle.classes.specs.declared.forest.Forest.{Forest}
 use Rattle.contents.specs.Contents.{HeldIn}
-use Rattle.classes.specs.Rows.{parent_at, rank_at, held_at, standing_at, Rooted, RootSays, Admits, Restricted, Contained}
+use Rattle.classes.specs.Rows.{parent_at, rank_at, held_at, standing_at, Rooted, Admits, Restricted, Contained}
 use Rattle.classes.specs.Forests.{made_in, Allows, Barren, Grown, Narrowed, Throughout, RangeIs, LeastIs, GreatestIs, OneValue}
 use Rattle.classes.proofs.Fields.{field_low, field_last}
 use Rattle.classes.proofs.Places.{along, by_place}

@@ -1,5 +1,5 @@
 -- What a forest of classes allows: its rows, and a flag that it has failed. Assumes nothing.
-use Rattle.std.specs.Prelude.{◌≡◌, ℕ, ◌+◌, ◌<◌, ◌≤◌, Bool, false, ◌↔◌, ℤ, ◌≤ℤ◌, Some, None, vec_items, vec_len, Option, Result, Ok, Err}
+use Rattle.std.specs.Prelude.{◌≡◌, ℕ, ◌+◌, ◌<◌, ◌≤◌, false, ◌↔◌, ℤ, ◌≤ℤ◌, Some, None, vec_items, vec_len, Option, Result, Ok, Err}
 use Rattle.classes.specs.declared.forest.Forest.{Forest}
 use Rattle.classes.specs.Rows.{RootSays, Admits, Valued, Contained}
 

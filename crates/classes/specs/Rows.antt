@@ -1,6 +1,5 @@
 -- Classes of variables as rows, and the valuations that they admit. Assumes nothing.
-use Rattle.std.specs.Prelude.{◌≡◌, ℕ, zero, suc, ◌+◌, ◌*◌, ◌<◌, ◌≤◌, Bool, true, false, ◌↔◌, List, map, length, ℤ, slice_index, slice_index_or}
-use Rattle.terms.specs.Answers.{Answers}
+use Rattle.std.specs.Prelude.{◌≡◌, ℕ, zero, suc, ◌+◌, ◌*◌, ◌<◌, ◌≤◌, ◌↔◌, List, map, length, ℤ, slice_index, slice_index_or}
 use Rattle.terms.specs.Values.{IsValue}
 use Rattle.classes.specs.declared.row.ClassRow.{ClassRow}
 

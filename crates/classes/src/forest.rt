@@ -18,5 +18,5 @@ pub struct Forest<C> {
 }
 
 /// A variable is not made.
-#[derive(Clone, Copy, Debug, PartialEq)]
+#[derive(Clone, Copy, Debug, PartialEq, Eq)]
 pub struct NotMade;

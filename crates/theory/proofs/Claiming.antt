@@ -13,7 +13,7 @@ use Rattle.contents.proofs.Signs.{answers_iff}
 use Rattle.classes.specs.Rows.{Valued}
 use Rattle.theory.specs.declared.claim.Claim.{Claim}
 use Rattle.theory.specs.declared.claim.Claim.TheVariants.{Alike}
-use Rattle.theory.specs.Claims.{Claimed, ClaimsOf, Claims}
+use Rattle.theory.specs.Claims.{ClaimsOf, Claims}
 use Rattle.theory.specs.Meanings.{Known, KnownAll}
 use Rattle.theory.specs.Wholes.{Truth, whole}
 

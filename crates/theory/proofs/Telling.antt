@@ -1,5 +1,5 @@
 -- Primitives told one after another, in any order.
-use Rattle.std.proofs.Common.{◌≡◌, ℕ, ◌+◌, ◌<◌, ◌≤◌, ◌↔◌, List, [], ◌∷◌, ◌++◌, length, get_or, take, sym, refl, ◌∙◌, subst}
+use Rattle.std.proofs.Common.{◌≡◌, ℕ, ◌+◌, ◌<◌, ◌≤◌, ◌↔◌, List, [], ◌∷◌, ◌++◌, length, get_or, take, sym, ◌∙◌, subst}
 use Rattle.std.specs.List.{All, Contains}
 use Rattle.std.proofs.lemmas.List.{take_all, take_more}
 use Rattle.std.proofs.lemmas.List.Elements.{All-nil, All-cons, All-head, All-tail, All-push, All-weaker, All-contains, All-contains_itself}
@@ -20,9 +20,6 @@ same_elements : {X : Type 0} (P : X → Type 0) (xs ys : List X) → ((x : X) �
 same_elements P xs ys e a = All-weaker (Contains ys) P (λ x h. All-contains P xs x a (e x h)) ys (All-contains_itself ys)
 
 module _ {d : Domain} where
-  pub told_none : (m : Meaning d) → ToldAll m [] m
-  told_none m = (refl, λ v. (λ a. (a, All-nil (λ p. KnownAll m.made p → TrueIn d v p)), λ b. b.0))
-
   module _ (m n k : Meaning d) (ps : List (Primitive Operand)) (p : Primitive Operand) (a : ToldAll m ps n) (e : k.made ≡ n.made) where
     push_known : KnownAll n.made p → ((v : Valuation d) → k.admits v ↔ (n.admits v × TrueIn d v p)) → ToldAll m (ps ++ p ∷ []) k
     push_known known s = (

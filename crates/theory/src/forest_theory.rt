@@ -63,10 +63,12 @@ impl<C: Interpreted> Theory for Forest<C> {
 }
 
 impl<C: Interpreted> RangedTheory for Forest<C> {
+    #[tactic(auto, using(crate::proofs::Answering::least_said))]
     fn least(&self, x: u8) -> Option<i32> {
         self.least(x)
     }
 
+    #[tactic(auto, using(crate::proofs::Answering::greatest_said))]
     fn greatest(&self, x: u8) -> Option<i32> {
         self.greatest(x)
     }

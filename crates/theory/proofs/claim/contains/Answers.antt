@@ -1,6 +1,6 @@
-use Rattle.std.proofs.Common.{◌≡◌, ℤ, Some, None}
+use Rattle.std.proofs.Common.{◌≡◌, ℤ, Some}
 use Rattle.contents.specs.Contents.{Holding}
-use Rattle.theory.proofs.Claiming.{at_bits, within_says, held_by_none}
+use Rattle.theory.proofs.Claiming.{at_bits, within_says}
 use Rattle.theory.proofs.claim.contains.Goals as goal
 
 pub returns-in-Some-Some : goal.returns-in-Some-Some

@@ -1,8 +1,5 @@
-use Rattle.theory.proofs.Telling.{told_none, told_more, told_all}
+use Rattle.theory.proofs.Telling.{told_more, told_all}
 use Rattle.theory.proofs.uses.tell_all.Goals as goal
-
-pub loop-p-init : goal.loop-p-init
-loop-p-init g c = told_none (g.T.Theory.means c.args.theory.now)
 
 pub loop-p-preserved : goal.loop-p-preserved
 loop-p-preserved g c =

@@ -1,4 +1,4 @@
-use Rattle.std.proofs.Common.{◌<◌, length, vec_items, ap, arith}
+use Rattle.std.proofs.Common.{vec_items, ap, arith}
 use Rattle.classes.proofs.Links.{at_roots}
 use Rattle.classes.proofs.Stores.{narrowed_iff, narrowed_not}
 use Rattle.classes.proofs.forest.Forest.join.Goals as goal
