@@ -51,7 +51,7 @@ linkable H rows r t d e c down kr kt ed ee under m =
 
 -- two roots that are not one do not stand in one place
 pub apart : {C : Type 0} (rows : List (ClassRow C)) (r t : ℕ) → Rooted rows → r < length rows → t < length rows → (r ≡ t → ⊥) →
-    standing_at rows t ≤ standing_at rows r → standing_at rows t < standing_at rows r
+    (standing_at rows r < standing_at rows t → ⊥) → standing_at rows t < standing_at rows r
 apart rows r t down lr lt ne no_less = let n = down.0 in omega arith
 
 module _ {C : Type 0} (rows : List (ClassRow C)) (down : Rooted rows) where

@@ -2,7 +2,8 @@
 use Rattle.std.proofs.Common.{◌≡◌, ℕ, ◌+◌, ◌<◌, ◌≤◌, Bool, true, false, eqb, ◌↔◌, List, [], ◌∷◌, ◌++◌, length, ℤ, ◌≤ℤ◌, Some, None, vec_items, vec_len, Option, sym, refl, ap, ◌∙◌, subst, arith, w32, SFits, of_z}
 use Rattle.std.proofs.lemmas.Bool.{true≢false}
 use Rattle.std.proofs.lemmas.Int.{ints}
-use Rattle.std.proofs.lemmas.List.{length_push}
+use Rattle.std.specs.Vec.{with_items}
+use Rattle.std.proofs.lemmas.List.{length_push, with_items_is}
 use Rattle.terms.specs.Answers.{Answers}
 use Rattle.terms.specs.Values.{IsValue}
 use Rattle.classes.specs.declared.row.ClassRow.{ClassRow}
@@ -31,6 +32,17 @@ module _ {C : Type 0} (H : C → ℤ → Type 0) (f : Forest C) (P : (ℕ → �
   pub refuted : ((v : ℕ → ℤ) → Admits H (vec_items f.rows) v → P v → ⊥) → g.failed ≡ true → Narrowed H f P g
   refuted never e =
       record { size = size; allows = λ v. (λ x. absurd (true≢false (sym e ∙ x.0)), λ y. absurd (never v y.0.1 y.1)) }
+
+-- a forest over whose rows restricted rows were written
+module _ {C : Type 0} (H : C → ℤ → Type 0) (f : Forest C) (P : (ℕ → ℤ) → Type 0) (a b : List (ClassRow C)) (ea : a ≡ vec_items f.rows) (r : Restricted H a P b) where
+  written : vec_items (with_items f.rows b) ≡ b
+  written = with_items_is f.rows b (r.size ∙ (ap length ea ∙ sym f.rows.ok.0))
+
+  pub written_rooted : Rooted (vec_items (with_items f.rows b))
+  written_rooted = subst (λ (l : List (ClassRow C)). Rooted l) (sym written) r.rooted
+
+  pub written_narrowed : (g : Forest C) → g.rows ≡ with_items f.rows b → g.failed ≡ f.failed → Narrowed H f P g
+  written_narrowed g eg ef = restricted H f P g (ap vec_len eg) a b ea (ap vec_items eg ∙ written) ef r
 
 -- what holds anyway leaves a forest as it was
 pub narrowed_not : {C : Type 0} (H : C → ℤ → Type 0) (f : Forest C) (P : (ℕ → ℤ) → Type 0) → Throughout H f P → Narrowed H f P f

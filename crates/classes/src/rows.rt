@@ -1,17 +1,19 @@
 //! Rows that are linked.
 
 ghost use Rattle.std.specs.Prelude.{◌≡◌, ◌<◌, length};
+ghost use Rattle.terms.specs.Answers.{Answers};
 ghost use Rattle.classes.specs.Rows.{Restricted, Linkable, standing_at};
 
 use crate::row::ClassRow;
 use contents::content::Content;
 
-/// Where a row stands among the rows: by its rank, and among equals by its place.
-pub(crate) fn standing<C>(rows: &[ClassRow<C>], x: u8) -> u32
-    requires { x < length rows.now }
-    ensures { result ≡ standing_at rows.now x }
+/// Whether `a` stands below `b` among the rows: by its rank, and among equals by its place.
+pub(crate) fn is_below<C>(rows: &[ClassRow<C>], a: u8, b: u8) -> bool
+    requires first { a < length rows.now }
+    requires second { b < length rows.now }
+    ensures { Answers result (standing_at rows.now a < standing_at rows.now b) }
 {
-    256 * u32::from(rows[x as usize].rank) + u32::from(x)
+    (rows[a as usize].rank, a) < (rows[b as usize].rank, b)
 }
 
 /// Puts the root `lower` below the root `upper`, whose class then holds `content`.

@@ -9,7 +9,7 @@ ghost use Rattle.classes.specs.Forests.{made_in, Barren, Fresh, Grows, Narrowed,
 use super::{Forest, NotMade};
 use crate::pair::{is_one_value, meeting};
 use crate::row::ClassRow;
-use crate::rows::{link, standing};
+use crate::rows::{is_below, link};
 use contents::content::Content;
 use std::alloc::{AllocError, Global};
 
@@ -195,7 +195,7 @@ impl<C: Content> Forest<C> {
             self.failed = true;
             return;
         };
-        if standing(&self.rows, one) < standing(&self.rows, other) {
+        if is_below(&self.rows, one, other) {
             link(&mut self.rows, one, other, content);
         } else {
             link(&mut self.rows, other, one, content);

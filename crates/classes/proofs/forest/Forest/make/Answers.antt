@@ -10,7 +10,7 @@ invariant_of-self g c =
     let R : List (ClassRow g.row.C.Denot) → Type 0 = λ l. Rooted l in
     let len : length (vec_items rows) ≡ vec_len rows = sym rows.ok.0 in
     record {
-      ok = subst R (sym c.push_reserved.ensures.items)
+      ok = subst R (sym {A = List (ClassRow g.row.C.Denot)} c.push_reserved.ensures.items)
           (pushed_rooted g.C.Content.holds (vec_items rows) _ (c.len-count.ensures ∙ sym len) refl (omega arith) c.args.self.now.ok);
       roomy = let room = c.args.self.now.roomy in omega arith;
     }

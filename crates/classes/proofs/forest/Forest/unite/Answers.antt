@@ -1,9 +1,8 @@
-use Rattle.std.proofs.Common.{List, vec_items, sym, refl, ap, ◌∙◌, subst, arith}
-use Rattle.std.proofs.lemmas.List.{with_items_is}
+use Rattle.std.proofs.Common.{◌<◌, List, vec_items, sym, refl, subst}
 use Rattle.classes.specs.declared.row.ClassRow.{ClassRow}
-use Rattle.classes.specs.Rows.{Rooted, Linkable, standing_at}
+use Rattle.classes.specs.Rows.{Linkable, standing_at}
 use Rattle.classes.proofs.Links.{meets, top_held, linkable, apart}
-use Rattle.classes.proofs.Stores.{restricted, refuted, narrowed_iff}
+use Rattle.classes.proofs.Stores.{refuted, written_rooted, written_narrowed, narrowed_iff}
 use Rattle.classes.proofs.forest.Forest.unite.Goals as goal
 
 pub returns-in_default : goal.returns-in_default
@@ -19,46 +18,35 @@ returns-in_default g c =
 pub link-requires : goal.link-requires
 link-requires g c =
     let H = g.C.Content.holds in
-    let rows = vec_items c.args.self.now.rows in
-    let s = ap (λ (l : List (ClassRow g.row.C.Denot)). standing_at l c.args.one) c.deref.ensures.value in
-    let t = ap (λ (l : List (ClassRow g.row.C.Denot)). standing_at l c.args.other) c.deref-2.ensures.value in
+    let f = c.args.self.now in
     let m = meets H g.met.C.Content.proper (H c.index-2.result.now.content) _ c.in-Some.content c.in-Some.ensures in
     subst (λ (l : List (ClassRow g.row.C.Denot)). Linkable H l c.args.one c.args.other c.in-Some.content) (sym c.deref_mut.ensures.value)
-    (linkable H rows c.args.one c.args.other c.index.result.now c.index-2.result.now c.in-Some.content c.args.self.now.ok
-    c.requires.first c.requires.second c.index.ensures c.index-2.ensures (omega arith) m)
+    (linkable H (vec_items f.rows) c.args.one c.args.other c.index.result.now c.index-2.result.now c.in-Some.content f.ok
+    c.requires.first c.requires.second c.index.ensures c.index-2.ensures (subst (λ (l : List (ClassRow g.row.C.Denot)). standing_at l c.args.one < standing_at l c.args.other) c.deref.ensures.value c.if-is_below.ensures) m)
 
-pub invariant_of-self-then-standing : goal.invariant_of-self-then-standing
-invariant_of-self-then-standing g c =
-    record {
-      ok = subst (λ (l : List (ClassRow g.row.C.Denot)). Rooted l) (sym (with_items_is c.args.self.now.rows c.link.new.rows (c.link.ensures.size ∙ c.deref_mut.ensures.len))) c.link.ensures.rooted;
-      roomy = c.args.self.now.roomy;
-    }
+pub invariant_of-self-then-is_below : goal.invariant_of-self-then-is_below
+invariant_of-self-then-is_below g c =
+    record { ok = written_rooted g.C.Content.holds c.args.self.now _ _ c.link.new.rows c.deref_mut.ensures.value c.link.ensures; roomy = c.args.self.now.roomy }
 
-pub link-requires-else-standing : goal.link-requires-else-standing
-link-requires-else-standing g c =
+pub link-requires-else-is_below : goal.link-requires-else-is_below
+link-requires-else-is_below g c =
     let H = g.C.Content.holds in
-    let rows = vec_items c.args.self.now.rows in
-    let s = ap (λ (l : List (ClassRow g.row.C.Denot)). standing_at l c.args.one) c.deref.ensures.value in
-    let t = ap (λ (l : List (ClassRow g.row.C.Denot)). standing_at l c.args.other) c.deref-2.ensures.value in
+    let f = c.args.self.now in
     let m = meets H g.met.C.Content.proper (H c.index-2.result.now.content) _ c.in-Some.content c.in-Some.ensures in
-    subst (λ (l : List (ClassRow g.row.C.Denot)). Linkable H l c.args.other c.args.one c.in-Some.content) (sym c.deref_mut-else-standing.ensures.value)
-    (linkable H rows c.args.other c.args.one c.index-2.result.now c.index.result.now c.in-Some.content c.args.self.now.ok
-    c.requires.second c.requires.first c.index-2.ensures c.index.ensures (apart rows c.args.one c.args.other c.args.self.now.ok c.requires.first.0 c.requires.second.0 c.requires.apart (omega arith)) (λ z. (λ h. let p = (m z).0 h in (p.1, p.0), λ p. (m z).1 (p.1, p.0))))
+    subst (λ (l : List (ClassRow g.row.C.Denot)). Linkable H l c.args.other c.args.one c.in-Some.content) (sym c.deref_mut-else-is_below.ensures.value)
+    (linkable H (vec_items f.rows) c.args.other c.args.one c.index-2.result.now c.index.result.now c.in-Some.content f.ok
+    c.requires.second c.requires.first c.index-2.ensures c.index.ensures (apart (vec_items f.rows) c.args.one c.args.other f.ok c.requires.first.0 c.requires.second.0 c.requires.apart
+    (subst (λ (l : List (ClassRow g.row.C.Denot)). standing_at l c.args.one < standing_at l c.args.other → ⊥) c.deref.ensures.value c.if-is_below.ensures)) (λ z. (λ h. let p = (m z).0 h in (p.1, p.0), λ p. (m z).1 (p.1, p.0))))
 
-pub invariant_of-self-else-standing : goal.invariant_of-self-else-standing
-invariant_of-self-else-standing g c =
-    record {
-      ok = subst (λ (l : List (ClassRow g.row.C.Denot)). Rooted l) (sym (with_items_is c.args.self.now.rows c.link-else-standing.new.rows (c.link-else-standing.ensures.size ∙ c.deref_mut-else-standing.ensures.len))) c.link-else-standing.ensures.rooted;
-      roomy = c.args.self.now.roomy;
-    }
+pub invariant_of-self-else-is_below : goal.invariant_of-self-else-is_below
+invariant_of-self-else-is_below g c =
+    record { ok = written_rooted g.C.Content.holds c.args.self.now _ _ c.link-else-is_below.new.rows c.deref_mut-else-is_below.ensures.value c.link-else-is_below.ensures; roomy = c.args.self.now.roomy }
 
-pub returns-then-standing : goal.returns-then-standing
-returns-then-standing g c =
-    restricted g.C.Content.holds c.args.self.now _ _ refl _ _ c.deref_mut.ensures.value
-    (with_items_is c.args.self.now.rows c.link.new.rows (c.link.ensures.size ∙ c.deref_mut.ensures.len)) refl c.link.ensures
+pub returns-then-is_below : goal.returns-then-is_below
+returns-then-is_below g c =
+    written_narrowed g.C.Content.holds c.args.self.now _ _ c.link.new.rows c.deref_mut.ensures.value c.link.ensures _ refl refl
 
-pub returns-else-standing : goal.returns-else-standing
-returns-else-standing g c =
+pub returns-else-is_below : goal.returns-else-is_below
+returns-else-is_below g c =
     narrowed_iff g.C.Content.holds c.args.self.now _ _ _ (λ v k. (λ e. sym e, λ e. sym e))
-    (restricted g.C.Content.holds c.args.self.now _ _ refl _ _ c.deref_mut-else-standing.ensures.value
-    (with_items_is c.args.self.now.rows c.link-else-standing.new.rows (c.link-else-standing.ensures.size ∙ c.deref_mut-else-standing.ensures.len)) refl c.link-else-standing.ensures)
+    (written_narrowed g.C.Content.holds c.args.self.now _ _ c.link-else-is_below.new.rows c.deref_mut-else-is_below.ensures.value c.link-else-is_below.ensures _ refl refl)
