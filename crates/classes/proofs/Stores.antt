@@ -9,10 +9,11 @@ use Rattle.terms.specs.Values.{IsValue}
 use Rattle.classes.specs.declared.row.ClassRow.{ClassRow}
 use Rattle.classes.specs.declared.forest.Forest.{Forest}
 use Rattle.contents.specs.Contents.{HeldIn}
-use Rattle.classes.specs.Rows.{parent_at, rank_at, held_at, standing_at, Rooted, Admits, Restricted, Contained}
+use Rattle.classes.specs.Rows.{parent_at, rank_at, held_at, standing_at, Rooted, RootSays, Admits, Restricted, Contained}
 use Rattle.classes.specs.Forests.{made_in, Allows, Barren, Grown, Narrowed, Throughout, RangeIs, LeastIs, GreatestIs, OneValue}
 use Rattle.classes.proofs.Fields.{field_low, field_last}
 use Rattle.classes.proofs.Places.{along, by_place}
+use Rattle.classes.proofs.Links.{at_roots}
 use Rattle.classes.proofs.Reaches.{some_admitted}
 use Rattle.contents.proofs.Signs.{answers_bits, answers_iff}
 
@@ -131,6 +132,16 @@ grown {C} H f r x g ex room len own flat all gi gl gf =
         λ b. (gf ∙ b.0, subst (λ (l : List (ClassRow C)). Admits H l v) (sym gi) (pushed_from H (vec_items f.rows) r (own ∙ sym len) flat all v b.1)),
       );
     }
+
+-- a made variable has a row
+pub has_row : {C : Type 0} (f : Forest C) (x : ℕ) → x < made_in f → x < length (vec_items f.rows)
+has_row f x l = let len = f.rows.ok.0 in omega arith
+
+-- equal at the roots that were found, equal at the variables
+pub at_found : {C : Type 0} (H : C → ℤ → Type 0) (f : Forest C) (a b r t : ℕ) → (a < made_in f) × RootSays (vec_items f.rows) a r →
+    (b < made_in f) × RootSays (vec_items f.rows) b t → (v : ℕ → ℤ) → Allows H f v → (v r ≡ v t) ↔ (v a ≡ v b)
+at_found H f a b r t x y v k =
+    at_roots (vec_items f.rows) f.ok H a b r t (has_row f a x.0) (has_row f b y.0) x.1 y.1 v k.1
 
 -- questions to a forest that has not failed
 module _ {C : Type 0} (H : C → ℤ → Type 0) (f : Forest C) (ff : f.failed ≡ false) where

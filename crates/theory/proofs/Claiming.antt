@@ -1,5 +1,5 @@
 -- Primitives as claims on a forest of classes.
-use Rattle.std.proofs.Common.{◌≡◌, ℕ, Bool, ◌↔◌, ℤ, Some, None, Option, sym, refl, subst, w32, SFits, to_z, of_z}
+use Rattle.std.proofs.Common.{◌≡◌, ℕ, Bool, ◌↔◌, ℤ, Some, Option, sym, subst, w32, SFits, to_z, of_z}
 use Rattle.std.proofs.lemmas.Int.{to_z-of_z}
 use Rattle.terms.specs.declared.Operand.{Operand}
 use Rattle.terms.specs.declared.Operand.TheVariants.{Value, Variable}
@@ -30,11 +30,6 @@ module _ {C : Type 0} (H : C → ℤ → Type 0) (low : C → ℤ) (ends : (c : 
       let mine : H one n = subst (λ (z : ℤ). H one z) self (ends one) in
       subst (λ (p : Option C). Answers r (HeldIn H p n)) (sym eo)
       (answers_iff r _ _ (λ f. f n mine) (λ h z k. subst (λ (y : ℤ). H all y) (sym ((only z (proper one z k)).0 k)) h) w)
-
-  -- what is alone in no content is no value, and in no content
-  pub held_by_none : (n : ℤ) (o : Option C) (all : C) → Holding H (λ z. z ≡ n) None → o ≡ Some all → HeldIn H o n → ⊥
-  held_by_none n o all only eo h =
-      let k : H all n = subst (λ (p : Option C). HeldIn H p n) eo h in (only n (proper all n k)).1 refl
 
 module _ {C : Type 0} (t : Truth) (H : C → ℤ → Type 0) where
   -- a known operand stands for a value

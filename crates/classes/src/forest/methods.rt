@@ -188,17 +188,14 @@ impl<C: Content> Forest<C> {
         requires apart { one ≢ other }
         ensures { Narrowed C.Content.holds self.old (λ v. v one ≡ v other) self.new }
     {
-        let Some(content) = self.rows[one as usize]
-            .content
-            .meet(self.rows[other as usize].content)
-        else {
-            self.failed = true;
-            return;
-        };
-        if is_below(&self.rows, one, other) {
-            link(&mut self.rows, one, other, content);
-        } else {
-            link(&mut self.rows, other, one, content);
+        let left = self.rows[one as usize].content;
+        let right = self.rows[other as usize].content;
+        match left.meet(right) {
+            None => self.failed = true,
+            Some(content) if is_below(&self.rows, one, other) => {
+                link(&mut self.rows, one, other, content);
+            }
+            Some(content) => link(&mut self.rows, other, one, content),
         }
     }
 }

@@ -1,7 +1,7 @@
-use Rattle.std.proofs.Common.{◌<◌, length, vec_items, sym, refl, subst, arith}
+use Rattle.std.proofs.Common.{vec_items, sym, refl, subst}
 use Rattle.contents.specs.Contents.{HeldIn}
 use Rattle.classes.proofs.Links.{root_value, root_held, confined}
-use Rattle.classes.proofs.Stores.{restricted, refuted, narrowed_iff}
+use Rattle.classes.proofs.Stores.{has_row, restricted, refuted, narrowed_iff}
 use Rattle.classes.proofs.forest.Forest.confine.Goals as goal
 
 pub invariant_of-self : goal.invariant_of-self
@@ -19,8 +19,7 @@ returns-in-Some g c =
     let H = g.C.Content.holds in
     let f = c.args.self.now in
     let made = c.in_ok-top.ensures.0 in
-    let len = f.rows.ok.0 in
-    let in_rows : c.args.x < length (vec_items f.rows) = omega arith in
+    let in_rows = has_row f c.args.x made in
     let s = c.in_ok-top.ensures.1 in
     let P = HeldIn H c.args.by in (
       made,
@@ -36,8 +35,7 @@ returns-in-None g c =
     let H = g.C.Content.holds in
     let f = c.args.self.now in
     let made = c.in_ok-top.ensures.0 in
-    let len = f.rows.ok.0 in
-    let in_rows : c.args.x < length (vec_items f.rows) = omega arith in (
+    let in_rows = has_row f c.args.x made in (
       made,
       refuted H f _ _ refl
           (λ v a p. (c.in-None.ensures (v c.args.x) (a.0 c.args.x)).1

@@ -3,4 +3,4 @@ use Rattle.std.proofs.lemmas.Int.{ints, clamps}
 use Rattle.contents.proofs.ends.Ends.between.Goals as goal
 
 pub returns-else-low-high : goal.returns-else-low-high
-returns-else-low-high c = λ z k. (λ h. (omega (arith, ints, clamps), omega (arith, ints, clamps)), λ p. (omega (arith, ints, clamps), omega (arith, ints, clamps)))
+returns-else-low-high c = λ z k. grind (arith, ints, clamps)
