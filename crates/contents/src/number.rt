@@ -1,9 +1,10 @@
-//! A number that is a value.
+//! A number as what a class holds.
 
 ghost use Rattle.std.specs.Prelude.{pos, negsuc, ◌≤ℤ◌};
 
 pub mod content;
 
+/// A number that is a value.
 #[derive(Clone, Copy)]
 pub struct Number {
     value: i32,

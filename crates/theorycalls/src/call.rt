@@ -45,6 +45,7 @@ impl TryFrom<&[&str]> for Call {
     }
 }
 
+/// A primitive: its kind, an operand, and an operand or a number.
 fn primitive(kind: &str, a: &str, b: &str) -> Result<Primitive<Operand>, NoCall> {
     let a = operand(a)?;
     Ok(match kind {
@@ -54,6 +55,7 @@ fn primitive(kind: &str, a: &str, b: &str) -> Result<Primitive<Operand>, NoCall>
     })
 }
 
+/// A number, or `v` with a variable's number.
 fn operand(word: &str) -> Result<Operand, NoCall> {
     Ok(match word.strip_prefix("v") {
         Some(number) => Operand::Variable(number.parse()?),

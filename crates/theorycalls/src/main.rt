@@ -19,6 +19,7 @@ use theory::interface::{RangedTheory, Theory};
 use theory::interpreted::Interpreted;
 use theory::names::Names;
 
+/// Makes a call.
 fn perform<T: RangedTheory>(theory: &mut T, call: Call) -> Answer {
     match call {
         Call::Clear => {
