@@ -1,5 +1,5 @@
 -- One row more in a chain.
-use Rattle.std.proofs.Common.{◌≡◌, ℕ, zero, suc, ◌+◌, ◌<◌, ◌≤◌, true, false, List, [], ◌∷◌, ◌++◌, length, get_or, set, Some, None, Option, sym, refl, ap, ◌∙◌, subst, inl, inr, arith}
+use Rattle.std.proofs.Common.{◌≡◌, ℕ, zero, suc, ◌+◌, ◌<◌, ◌≤◌, true, false, List, [], ◌∷◌, ◌++◌, length, get_or, set, Some, None, Option, Ok, sym, refl, ap, ◌∙◌, subst, inl, inr, arith}
 use Rattle.std.proofs.lemmas.Bool.{cases_eq, cases_lt, both_ways, and_from, and_left, eq-eqb, ne_eqb}
 use Rattle.std.proofs.lemmas.List.{get_or_append_left, get_or_push, length_push, length-set, get_or-set_same, get_or-set_other, get_or_default}
 use Rattle.terms.specs.declared.Operand.{Operand}
@@ -8,7 +8,6 @@ use Rattle.table.specs.Records.{Record, recorded}
 use Rattle.table.specs.Tables.{Table, with_record}
 use Rattle.table.specs.Nexts.{NextOf, answers, any_answers}
 use Rattle.table.specs.Rows.{look, lawful, record_of, Placed}
-use Rattle.table.specs.declared.put.Put.TheVariants.{Added}
 use Rattle.table.specs.declared.row.Row.{Row}
 use Rattle.table.specs.TablesLemmas.{none_is, with_here, with_other, with_both}
 use Rattle.table.specs.NextsLemmas.{any_one, next_both_not}
@@ -195,7 +194,7 @@ module _ (xs : List Row) (h : lawful xs ≡ true) (x : Row) (fresh : is_none (lo
       ]
 
 -- the same, by what is known of the row
-pub chained_after : (xs ys : List Row) (links links' heads : List (Option ℕ)) (n s b m : ℕ) (zs : List Operand) (v : Option ℕ) → lawful xs ≡ true → is_none (look xs n) ≡ true → Linked xs links heads → Before xs s n (Some b) → Placed xs ys n (recorded s zs) Added → v ≡ get_or links b None → links' ≡ links ++ v ∷ [] → m ≡ length xs → Linked ys (set links' b (Some m)) heads
+pub chained_after : (xs ys : List Row) (links links' heads : List (Option ℕ)) (n s b m : ℕ) (zs : List Operand) (v : Option ℕ) → lawful xs ≡ true → is_none (look xs n) ≡ true → Linked xs links heads → Before xs s n (Some b) → Placed xs ys n (recorded s zs) (Ok tt) → v ≡ get_or links b None → links' ≡ links ++ v ∷ [] → m ≡ length xs → Linked ys (set links' b (Some m)) heads
 chained_after xs ys links links' heads n s b m zs v h fresh lk bef (x, ey, en, er) ev el em =
     subst (λ bs. Linked bs (set links' b (Some m)) heads) (sym ey)
     (subst (λ k. Linked (xs ++ x ∷ []) (set links' b (Some k)) heads) (sym em)
@@ -203,7 +202,7 @@ chained_after xs ys links links' heads n s b m zs v h fresh lk bef (x, ey, en, e
     (linked_after xs h x (ap (λ k. is_none (look xs k)) en ∙ fresh) links heads s b (sym (ap (λ (q : Record). q.symbol) er)) lk
     (subst (λ k. Before xs s k (Some b)) (sym en) bef))))
 
-pub chained_first : (xs ys : List Row) (links links' heads : List (Option ℕ)) (n s m : ℕ) (zs : List Operand) (v : Option ℕ) → lawful xs ≡ true → is_none (look xs n) ≡ true → s < 32 → 1 ≤ n → Linked xs links heads → Before xs s n None → Placed xs ys n (recorded s zs) Added → v ≡ get_or heads s None → links' ≡ links ++ v ∷ [] → m ≡ length xs → Linked ys links' (set heads s (Some m))
+pub chained_first : (xs ys : List Row) (links links' heads : List (Option ℕ)) (n s m : ℕ) (zs : List Operand) (v : Option ℕ) → lawful xs ≡ true → is_none (look xs n) ≡ true → s < 32 → 1 ≤ n → Linked xs links heads → Before xs s n None → Placed xs ys n (recorded s zs) (Ok tt) → v ≡ get_or heads s None → links' ≡ links ++ v ∷ [] → m ≡ length xs → Linked ys links' (set heads s (Some m))
 chained_first xs ys links links' heads n s m zs v h fresh l32 one lk bef (x, ey, en, er) ev el em =
     subst (λ bs. Linked bs links' (set heads s (Some m))) (sym ey)
     (subst (λ k. Linked (xs ++ x ∷ []) links' (set heads s (Some k))) (sym em)

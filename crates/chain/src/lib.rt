@@ -10,7 +10,7 @@ ghost use Rattle.std.proofs.Common.{arith, rules};
 
 use std::alloc::{AllocError, Global};
 use table::partner::PartnerTable;
-use table::put::Put;
+use table::put::PutRefusal;
 use table::row::Row;
 use table::rows;
 use table::rows::{Rows, SYMBOLS};
@@ -21,12 +21,12 @@ const ROWS: usize = 256;
 /// A partner table of 256 rows, those of each symbol linked by rising identifier.
 #[derive(Drop)]
 pub struct ChainTable {
-    rows: Rows,
+    rows: Rows<ROWS>,
     /// The place of the next row of the same symbol, for each row.
     links: Vec<Option<usize>>,
     /// The place of the first row of each symbol.
     heads: [Option<usize>; SYMBOLS],
-    ghost wide: { (rows.limit ≡ 256) × (256 ≤ vec_capacity links) },
+    ghost wide: { 256 ≤ vec_capacity links },
     ghost linked: { ∥ Linked rows.items.items links.items heads ∥₁ },
 }
 
@@ -34,11 +34,9 @@ impl ChainTable {
     pub fn new(heap: Global) -> Result<ChainTable, AllocError>
         ensures { IfOk result (λ t. look t.rows.items.items ≡ nothing) }
     {
-        let rows = Rows::new(heap, ROWS)?;
-        let links = Vec::with_capacity(heap, ROWS)?;
         Ok(ChainTable {
-            rows,
-            links,
+            rows: Rows::new(heap)?,
+            links: Vec::with_capacity(heap, ROWS)?,
             heads: [None; SYMBOLS],
         })
     }
@@ -47,12 +45,7 @@ impl ChainTable {
     fn head(&self, symbol: u8) -> Option<usize>
         ensures { To self.now.rows.items.items result symbol 0 }
     {
-        let symbol = symbol as usize;
-        if symbol < SYMBOLS {
-            self.heads[symbol]
-        } else {
-            None
-        }
+        *self.heads.get(symbol as usize)?
     }
 
     /// The row at a place, and the place of the next row of its symbol.
@@ -108,7 +101,7 @@ impl PartnerTable for ChainTable {
 
     ghost fits = { λ t i. look_fits t.rows.items.items t.rows.ok.0 i };
 
-    ghost within = { λ t. omega (arith, size_look t.rows.items.items t.rows.ok.0, t.rows.items.ok.0, t.rows.ok, t.wide) };
+    ghost within = { λ t. omega (arith, size_look t.rows.items.items t.rows.ok.0, t.rows.items.ok.0, t.rows.ok) };
 
     fn capacity(&self) -> usize {
         ROWS
@@ -124,37 +117,26 @@ impl PartnerTable for ChainTable {
         self.heads = [None; SYMBOLS];
     }
 
-    fn put(&mut self, identifier: u32, symbol: u8, arguments: &[Operand]) -> Put {
+    fn put(&mut self, identifier: u32, symbol: u8, arguments: &[Operand]) -> Result<(), PutRefusal> {
         let place = self.count();
         let last = self.before(symbol, identifier);
-        let answer = self.rows.put(identifier, symbol, arguments);
-        if let Put::Added = answer {
-            match last {
-                Some(before) => {
-                    let rest = self.links[before];
-                    self.links.push_reserved(rest);
-                    self.links[before] = Some(place);
-                }
-                None => {
-                    let symbol = symbol as usize;
-                    self.links.push_reserved(self.heads[symbol]);
-                    self.heads[symbol] = Some(place);
-                }
-            }
-        }
-        answer
+        self.rows.put(identifier, symbol, arguments)?;
+        let rest = match last {
+            Some(before) => self.links[before].replace(place),
+            None => self.heads[symbol as usize].replace(place),
+        };
+        self.links.push_reserved(rest);
+        Ok(())
     }
 
     fn remove(&mut self, identifier: u32) -> bool {
-        match self.rows.remove(identifier) {
-            Some(place) => {
-                let rest = self.links.remove(place);
-                relink(self.links.as_mut_slice(), place, rest);
-                relink(&mut self.heads, place, rest);
-                true
-            }
-            None => false,
-        }
+        let Some(place) = self.rows.remove(identifier) else {
+            return false;
+        };
+        let rest = self.links.remove(place);
+        relink(self.links.as_mut_slice(), place, rest);
+        relink(&mut self.heads, place, rest);
+        true
     }
 
     fn next(&self, symbol: Option<u8>, key: Option<i32>, above: u32) -> Option<u32> {
@@ -185,17 +167,11 @@ fn relink(links: &mut [Option<usize>], place: usize, rest: Option<usize>)
 fn relinked(link: Option<usize>, place: usize, rest: Option<usize>) -> Option<usize>
     ensures { result ≡ relinked place rest link }
 {
-    match link {
-        Some(to) if to == place => shifted(rest, place),
-        _ => shifted(link, place),
-    }
+    shifted(if link == Some(place) { rest } else { link }, place)
 }
 
 fn shifted(link: Option<usize>, place: usize) -> Option<usize>
     ensures { result ≡ shifted place link }
 {
-    match link {
-        Some(to) if to > place => Some(to - 1),
-        _ => link,
-    }
+    link.map(|to| if to > place { to - 1 } else { to })
 }

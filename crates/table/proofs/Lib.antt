@@ -1,3 +1,3 @@
-pub mod Places
+pub mod Leasts
 pub mod Positions
 pub mod Puts

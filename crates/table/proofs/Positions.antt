@@ -1,30 +1,41 @@
 -- The place of an identifier's row, and the rows with one more and one less.
-use Rattle.std.proofs.Common.{◌≡◌, ℕ, ◌<◌, true, false, not, List, [], ◌∷◌, ◌++◌, length, get_or, is_some, Some, None, Option, sym, refl, ap, ◌∙◌, arith}
+use Rattle.std.proofs.Common.{◌≡◌, ℕ, zero, suc, ◌<◌, ◌≢◌, Bool, true, false, not, List, [], ◌∷◌, ◌++◌, length, get_or, is_some, Some, None, Option, sym, refl, ap, ◌∙◌, arith}
 use Rattle.std.proofs.Math.Path.{fun_ext}
-use Rattle.std.specs.List.{remove}
-use Rattle.std.proofs.lemmas.Bool.{both_ways}
+use Rattle.std.specs.List.{remove, AllWithin, HoldsAt}
+use Rattle.std.specs.Option.{MatchOption}
 use Rattle.table.specs.Lists.{is_none, first}
 use Rattle.table.specs.Records.{Record, fit}
 use Rattle.table.specs.Tables.{with_record, without}
 use Rattle.table.specs.Rows.{record_of, look, lawful, Position, TakenOut}
 use Rattle.table.specs.declared.row.Row.{Row}
-use Rattle.table.specs.Looks.{look_push, lawful_push, look_removed, look_at}
+use Rattle.table.specs.Looks.{look_here, look_other, look_push, lawful_push, look_removed, look_at}
 
 -- a row that stands for none, where a default is wanted
 pub blank : Row
-blank = record { identifier = 0; symbol = 0; arguments = []; used = 0; ok = omega arith }
+blank = record { identifier = 0; symbol = 0; arguments = record { places = []; filled = 0; few = omega arith } }
+
+-- the first row of an identifier, which those before it have not
+first_at : (xs : List Row) (n k : ℕ) (d : Row) → k < length xs → (get_or xs k d).identifier ≡ n → ((j : ℕ) → j < k → (get_or xs j d).identifier ≢ n) → first (look xs n) ≡ Some (record_of (get_or xs k d))
+first_at [] n k d l e f = absurd (omega arith)
+first_at (x ∷ xs) n zero d l e f = ap first (look_here x xs n e)
+first_at (x ∷ xs) n (suc k) d l e f = ap first (look_other x xs n (f 0 (omega arith))) ∙ first_at xs n k d (omega arith) e (λ j m. f (suc j) (omega arith))
+
+none_at : (xs : List Row) (n : ℕ) (d : Row) → ((j : ℕ) → j < length xs → (get_or xs j d).identifier ≢ n) → look xs n ≡ []
+none_at [] n d f = refl
+none_at (x ∷ xs) n d f = look_other x xs n (f 0 (omega arith)) ∙ none_at xs n d (λ j m. f (suc j) (omega arith))
+
+pub position_is : (xs : List Row) (n : ℕ) (o : Option ℕ) → MatchOption o (AllWithin (λ (x : Row). x.identifier ≢ n) xs 0 (length xs)) (λ k. (k < length xs) × HoldsAt (λ (x : Row). x.identifier ≡ n) xs k × AllWithin (λ (x : Row). x.identifier ≢ n) xs 0 k) → Position xs n o
+position_is xs n None f = none_at xs n blank (λ j l. f j blank (omega arith) l)
+position_is xs n (Some k) p = (p.0, λ d. (p.1 d, first_at xs n k d p.0 (p.1 d) (λ j l. p.2 j d (omega arith) l)))
 
 some_first : {A : Type 0} (xs : List A) (x : A) → first xs ≡ Some x → is_none xs ≡ false
-some_first [] x e = let z : ◌≡◌ {A = ℕ} 0 1 = cc in absurd (omega arith)
+some_first [] x e = cc
 some_first (y ∷ ys) x e = refl
 
-pub position_some : (xs : List Row) (n : ℕ) (o : Option ℕ) → Position xs n o → is_some o ≡ true → is_none (look xs n) ≡ false
-position_some xs n None p h = absurd (both_ways false refl h)
-position_some xs n (Some k) p h = some_first (look xs n) _ (p.1 blank).1
-
-pub position_none : (xs : List Row) (n : ℕ) (o : Option ℕ) → Position xs n o → is_some o ≡ false → is_none (look xs n) ≡ true
-position_none xs n None p h = ap is_none p
-position_none xs n (Some k) p h = absurd (both_ways true h refl)
+-- whether a place was found, of rows that are the same
+pub known_is : (xs ys : List Row) (n : ℕ) (o : Option ℕ) (b : Bool) → ys ≡ xs → Position ys n o → b ≡ is_some o → is_none (look xs n) ≡ not b
+known_is xs ys n None b e p f = ap (λ zs. is_none (look zs n)) (sym e) ∙ ap is_none p ∙ ap not (sym f)
+known_is xs ys n (Some k) b e p f = ap (λ zs. is_none (look zs n)) (sym e) ∙ some_first (look ys n) _ (p.1 blank).1 ∙ ap not (sym f)
 
 -- whether a row was taken out
 pub taken_some : (xs ys : List Row) (n : ℕ) (o : Option ℕ) → TakenOut xs ys n o → is_some o ≡ not (is_none (look xs n))

@@ -1,5 +1,6 @@
 pub mod Lists
 pub mod Records
+pub mod Refusals
 pub mod Tables
 pub mod Nexts
 pub mod Rows

@@ -1,5 +1,6 @@
 -- Records: a constraint's symbol and arguments, and which of them a table takes. Assumes nothing.
-use Rattle.std.specs.Prelude.{ℕ, Bool, true, ◌&&◌, List, [], ◌∷◌, length, Some, None, Option, nat_le, nat_lt}
+use Rattle.std.specs.Prelude.{ℕ, Bool, true, ◌&&◌, List, length, Some, None, Option, nat_le, nat_lt}
+use Rattle.std.specs.List.{list_all}
 use Rattle.terms.specs.declared.Operand.{Operand}
 use Rattle.terms.specs.declared.Operand.TheVariants.{Value, Variable}
 use Rattle.terms.specs.Values.{is_value}
@@ -21,8 +22,7 @@ fitting (Variable x) = true
 
 -- the same of each operand
 abbrev pub all_fitting : List Operand → Bool
-all_fitting [] = true
-all_fitting (x ∷ xs) = fitting x && all_fitting xs
+all_fitting xs = list_all fitting xs
 
 -- what a record under an identifier may be: an identifier from 1 to 1,000,000, a symbol from 0 to 31 and 0 to 4 operands
 abbrev pub fit : ℕ → Record → Bool

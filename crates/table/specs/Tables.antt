@@ -1,9 +1,9 @@
 -- What a partner table means, and what its changes do to it. Assumes nothing.
-use Rattle.std.specs.Prelude.{ℕ, zero, suc, ◌+◌, Bool, true, false, cond, List, [], ◌∷◌, ◌++◌, length, ◌==◌, nat_lt}
+use Rattle.std.specs.Prelude.{ℕ, zero, suc, ◌+◌, Bool, true, false, cond, List, [], ◌∷◌, ◌++◌, length, Ok, Err, Result, ◌==◌, nat_lt}
 use Rattle.table.specs.Lists.{is_none, memberb}
 use Rattle.table.specs.Records.{Record, fit}
-use Rattle.table.specs.declared.put.Put.{Put}
-use Rattle.table.specs.declared.put.Put.TheVariants.{Added, Unfit, Twice, Full}
+use Rattle.table.specs.declared.put.PutRefusal.{PutRefusal}
+use Rattle.table.specs.declared.put.PutRefusal.TheVariants.{Unfit, Twice, Full}
 
 -- the records under each identifier. A table that began cleared has at most one under each
 abbrev pub Table : Type 0
@@ -34,20 +34,18 @@ both s t i = s i ++ t i
 abbrev pub without : Table → List ℕ → Table
 without t gone i = cond (memberb i gone) [] (t i)
 
--- what a put is answered, by whether the record is fit, whether none stands under the identifier, and whether there is room
-abbrev pub judged : Bool → Bool → Bool → Put
-judged false fresh room = Unfit
-judged true false room = Twice
-judged true true false = Full
-judged true true true = Added
+-- what a put is answered, by whether the record is fit, whether none stands under the identifier, and whether there is room: unfit where it is not fit, else twice where one stands there, else full where there is no room, and else no refusal
+abbrev pub judged : Bool → Bool → Bool → Result (Unit {0}) PutRefusal
+judged false fresh room = Err Unfit
+judged true false room = Err Twice
+judged true true false = Err Full
+judged true true true = Ok tt
 
 -- what a put of r under n is answered by a table that holds so many at most
-abbrev pub put_answer : Table → ℕ → ℕ → Record → Put
+abbrev pub put_answer : Table → ℕ → ℕ → Record → Result (Unit {0}) PutRefusal
 put_answer t limit n r = judged (fit n r) (is_none (t n)) (nat_lt (size t) limit)
 
 -- the table after a put of r under n that was so answered
-abbrev pub put_after : Table → ℕ → Record → Put → Table
-put_after t n r Added = with_record t n r
-put_after t n r Unfit = t
-put_after t n r Twice = t
-put_after t n r Full = t
+abbrev pub put_after : Table → ℕ → Record → Result (Unit {0}) PutRefusal → Table
+put_after t n r (Ok done) = with_record t n r
+put_after t n r (Err refusal) = t

@@ -5,7 +5,7 @@ ghost use Rattle.table.specs.Records.{recorded, fit, symbol_of, argument_of};
 ghost use Rattle.table.specs.Tables.{Table, nothing, size, without, put_answer, put_after};
 ghost use Rattle.terms.specs.Lists.{All};
 
-use crate::put::Put;
+use crate::put::PutRefusal;
 use terms::Operand;
 
 /// A set of records, each under an identifier, with a symbol and up to four arguments.
@@ -29,7 +29,7 @@ pub trait PartnerTable {
         ensures { records self.new ≡ nothing };
 
     /// Adds a record, if it is one, if none stands under the identifier, and if there is room.
-    fn put(&mut self, identifier: u32, symbol: u8, arguments: &[Operand]) -> Put
+    fn put(&mut self, identifier: u32, symbol: u8, arguments: &[Operand]) -> Result<(), PutRefusal>
         ensures value { result ≡ put_answer (records self.old) limit identifier (recorded symbol arguments.now) }
         ensures after { records self.new ≡ put_after (records self.old) identifier (recorded symbol arguments.now) result };
 

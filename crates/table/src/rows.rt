@@ -5,7 +5,7 @@ ghost use Rattle.table.specs.Records.{fitting, all_fitting, fit, recorded, symbo
 ghost use Rattle.table.specs.Rows.{look, lawful, Position, Placed, TakenOut};
 ghost use Rattle.table.specs.Tables.{size, without, put_answer, put_after};
 
-use crate::put::Put;
+use crate::put::PutRefusal;
 use crate::row::{PLACES, Row};
 use std::alloc::{AllocError, Global};
 use terms::{Operand, is_value};
@@ -16,20 +16,20 @@ pub const SYMBOLS: usize = 32;
 /// The greatest identifier.
 pub const GREATEST_IDENTIFIER: u32 = 1_000_000;
 
-/// At most `limit` rows, in any order, no two with one identifier; there is memory for all from the start.
+/// At most `LIMIT` rows, in any order, no two with one identifier; there is memory for all from the start.
 #[derive(Drop)]
-pub struct Rows {
+pub struct Rows<const LIMIT: usize> {
     items: Vec<Row>,
-    limit: usize,
-    ghost ok: { (lawful items.items ≡ true) × (vec_len items ≤ limit) × (limit ≤ vec_capacity items) },
+    ghost ok: { (lawful items.items ≡ true) × (vec_len items ≤ LIMIT) × (LIMIT ≤ vec_capacity items) },
 }
 
-impl Rows {
-    pub fn new(heap: Global, limit: usize) -> Result<Rows, AllocError>
-        ensures { IfOk result (λ v. (v.items.items ≡ []) × (v.limit ≡ limit)) }
+impl<const LIMIT: usize> Rows<LIMIT> {
+    pub fn new(heap: Global) -> Result<Self, AllocError>
+        ensures { IfOk result (λ v. v.items.items ≡ []) }
     {
-        let items = Vec::with_capacity(heap, limit)?;
-        Ok(Rows { items, limit })
+        Ok(Rows {
+            items: Vec::with_capacity(heap, LIMIT)?,
+        })
     }
 
     pub fn as_slice(&self) -> &[Row]
@@ -45,52 +45,46 @@ impl Rows {
     }
 
     pub fn clear(&mut self)
-        ensures items { self.new.items.items ≡ [] }
-        ensures limit { self.new.limit ≡ self.old.limit }
+        ensures { self.new.items.items ≡ [] }
     {
         self.items.clear();
     }
 
     /// Adds a row at the end, if it is a record, if none has the identifier, and if there is room.
-    pub fn put(&mut self, identifier: u32, symbol: u8, arguments: &[Operand]) -> Put
-        ensures value { result ≡ put_answer (look self.old.items.items) self.old.limit identifier (recorded symbol arguments.now) }
+    pub fn put(
+        &mut self,
+        identifier: u32,
+        symbol: u8,
+        arguments: &[Operand],
+    ) -> Result<(), PutRefusal>
+        ensures value { result ≡ put_answer (look self.old.items.items) LIMIT identifier (recorded symbol arguments.now) }
         ensures after { look self.new.items.items ≡ put_after (look self.old.items.items) identifier (recorded symbol arguments.now) result }
         ensures items { Placed self.old.items.items self.new.items.items identifier (recorded symbol arguments.now) result }
-        ensures limit { self.new.limit ≡ self.old.limit }
     {
-        if !is_fit(identifier, symbol, arguments) {
-            return Put::Unfit;
-        }
+        let row = Row::new(identifier, symbol, arguments).ok_or(PutRefusal::Unfit)?;
         if position(self.as_slice(), identifier).is_some() {
-            return Put::Twice;
+            return Err(PutRefusal::Twice);
         }
-        if self.count() >= self.limit {
-            return Put::Full;
+        if self.count() >= LIMIT {
+            return Err(PutRefusal::Full);
         }
-        self.items
-            .push_reserved(Row::new(identifier, symbol, arguments));
-        Put::Added
+        self.items.push_reserved(row);
+        Ok(())
     }
 
     /// Takes out the identifier's row and answers the place where it stood; the rows after it move down by one.
     pub fn remove(&mut self, identifier: u32) -> Option<usize>
         ensures place { TakenOut self.old.items.items self.new.items.items identifier result }
         ensures after { look self.new.items.items ≡ without (look self.old.items.items) (identifier ∷ []) }
-        ensures limit { self.new.limit ≡ self.old.limit }
     {
-        match position(self.as_slice(), identifier) {
-            Some(place) => {
-                let _ = self.items.remove(place);
-                Some(place)
-            }
-            None => None,
-        }
+        let place = position(self.as_slice(), identifier)?;
+        let _ = self.items.remove(place);
+        Some(place)
     }
 
     /// Leaves so many rows at most.
     pub fn truncate(&mut self, count: usize)
-        ensures items { self.new.items.items ≡ take count self.old.items.items }
-        ensures limit { self.new.limit ≡ self.old.limit }
+        ensures { self.new.items.items ≡ take count self.old.items.items }
     {
         self.items.truncate(count);
     }
@@ -100,12 +94,7 @@ impl Rows {
 pub fn position(rows: &[Row], identifier: u32) -> Option<usize>
     ensures { Position rows.now identifier result }
 {
-    for (place, row) in rows.iter().enumerate() {
-        if row.identifier() == identifier {
-            return Some(place);
-        }
-    }
-    None
+    rows.iter().position(|row| row.identifier() == identifier)
 }
 
 /// The symbol of the first row of an identifier.
@@ -128,14 +117,10 @@ pub fn argument(rows: &[Row], identifier: u32, place: usize) -> Option<Operand>
 pub fn next(rows: &[Row], symbol: Option<u8>, key: Option<i32>, above: u32) -> Option<u32>
     ensures { NextOf (look rows.now) symbol key above result }
 {
-    let mut best = None;
-    for row in rows {
-        let identifier = row.identifier();
-        if identifier > above && row.answers(symbol, key) {
-            best = lower(best, Some(identifier));
-        }
-    }
-    best
+    rows.iter()
+        .filter(|row| row.identifier() > above && row.answers(symbol, key))
+        .map(|row| row.identifier())
+        .min()
 }
 
 /// The lower of two numbers, each of which may be absent.
@@ -143,17 +128,15 @@ pub fn lower(one: Option<u32>, other: Option<u32>) -> Option<u32>
     ensures { result ≡ lower one other }
 {
     match (one, other) {
-        (Some(m), Some(n)) => { if m <= n { Some(m) } else { Some(n) } }
-        (Some(m), None) => Some(m),
-        (None, last) => last,
+        (Some(m), Some(n)) => Some(m.min(n)),
+        _ => one.or(other),
     }
 }
 
-fn is_fit(identifier: u32, symbol: u8, arguments: &[Operand]) -> bool
+pub(crate) fn is_fit(identifier: u32, symbol: u8, arguments: &[Operand]) -> bool
     ensures { result ≡ fit identifier (recorded symbol arguments.now) }
 {
-    1 <= identifier
-        && identifier <= GREATEST_IDENTIFIER
+    (1..=GREATEST_IDENTIFIER).contains(&identifier)
         && (symbol as usize) < SYMBOLS
         && arguments.len() <= PLACES
         && all_fitting(arguments)
@@ -163,12 +146,7 @@ fn is_fit(identifier: u32, symbol: u8, arguments: &[Operand]) -> bool
 pub fn all_fitting(arguments: &[Operand]) -> bool
     ensures { result ≡ all_fitting arguments.now }
 {
-    for operand in arguments {
-        if !is_fitting(*operand) {
-            return false;
-        }
-    }
-    true
+    arguments.iter().all(|operand| is_fitting(*operand))
 }
 
 fn is_fitting(operand: Operand) -> bool

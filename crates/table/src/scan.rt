@@ -5,7 +5,7 @@ ghost use Rattle.table.specs.Looks.{look_fits, size_look};
 ghost use Rattle.std.proofs.Common.{arith, rules};
 
 use crate::partner::PartnerTable;
-use crate::put::Put;
+use crate::put::PutRefusal;
 use crate::rows;
 use crate::rows::Rows;
 use std::alloc::{AllocError, Global};
@@ -16,16 +16,16 @@ const ROWS: usize = 256;
 /// A partner table of 256 rows that looks at each row.
 #[derive(Drop)]
 pub struct ScanTable {
-    rows: Rows,
-    ghost wide: { rows.limit ≡ 256 },
+    rows: Rows<ROWS>,
 }
 
 impl ScanTable {
     pub fn new(heap: Global) -> Result<ScanTable, AllocError>
         ensures { IfOk result (λ t. look t.rows.items.items ≡ nothing) }
     {
-        let rows = Rows::new(heap, ROWS)?;
-        Ok(ScanTable { rows })
+        Ok(ScanTable {
+            rows: Rows::new(heap)?,
+        })
     }
 }
 
@@ -40,7 +40,7 @@ impl PartnerTable for ScanTable {
 
     ghost fits = { λ t i. look_fits t.rows.items.items t.rows.ok.0 i };
 
-    ghost within = { λ t. omega (arith, size_look t.rows.items.items t.rows.ok.0, t.rows.items.ok.0, t.rows.ok, t.wide) };
+    ghost within = { λ t. omega (arith, size_look t.rows.items.items t.rows.ok.0, t.rows.items.ok.0, t.rows.ok) };
 
     fn capacity(&self) -> usize {
         ROWS
@@ -54,7 +54,12 @@ impl PartnerTable for ScanTable {
         self.rows.clear();
     }
 
-    fn put(&mut self, identifier: u32, symbol: u8, arguments: &[Operand]) -> Put {
+    fn put(
+        &mut self,
+        identifier: u32,
+        symbol: u8,
+        arguments: &[Operand],
+    ) -> Result<(), PutRefusal> {
         self.rows.put(identifier, symbol, arguments)
     }
 
