@@ -1,7 +1,7 @@
 -- One row more in a chain.
 use Rattle.std.proofs.Common.{◌≡◌, ℕ, zero, suc, ◌+◌, ◌<◌, ◌≤◌, true, false, List, [], ◌∷◌, ◌++◌, length, get_or, set, Some, None, Option, Ok, sym, refl, ap, ◌∙◌, subst, inl, inr, arith}
 use Rattle.std.proofs.lemmas.Bool.{cases_eq, cases_lt, both_ways, and_from, and_left, eq-eqb, ne_eqb}
-use Rattle.std.proofs.lemmas.List.{get_or_append_left, get_or_push, length_push, length-set, get_or-set_same, get_or-set_other, get_or_default}
+use Rattle.std.proofs.lemmas.List.{get_or_append_left, get_or_push, length_push, length-set, set-append_left, get_or-set_same, get_or-set_other, get_or_default}
 use Rattle.terms.specs.declared.Operand.{Operand}
 use Rattle.table.specs.Lists.{is_none}
 use Rattle.table.specs.Records.{Record, recorded}
@@ -193,19 +193,21 @@ module _ (xs : List Row) (h : lawful xs ≡ true) (x : Row) (fresh : is_none (lo
         ]
       ]
 
--- the same, by what is known of the row
-pub chained_after : (xs ys : List Row) (links links' heads : List (Option ℕ)) (n s b m : ℕ) (zs : List Operand) (v : Option ℕ) → lawful xs ≡ true → is_none (look xs n) ≡ true → Linked xs links heads → Before xs s n (Some b) → Placed xs ys n (recorded s zs) (Ok tt) → v ≡ get_or links b None → links' ≡ links ++ v ∷ [] → m ≡ length xs → Linked ys (set links' b (Some m)) heads
-chained_after xs ys links links' heads n s b m zs v h fresh lk bef (x, ey, en, er) ev el em =
-    subst (λ bs. Linked bs (set links' b (Some m)) heads) (sym ey)
-    (subst (λ k. Linked (xs ++ x ∷ []) (set links' b (Some k)) heads) (sym em)
-    (subst (λ ks. Linked (xs ++ x ∷ []) (set ks b (Some (length xs))) heads) (sym (el ∙ ap (λ w. links ++ w ∷ []) ev))
+-- the same, by what is known of the row, where the link before it is led to it and gives what it was
+pub chained_after : (xs ys : List Row) (links ls heads hs : List (Option ℕ)) (n s b m : ℕ) (zs : List Operand) (v : Option ℕ) → lawful xs ≡ true → is_none (look xs n) ≡ true → Linked xs links heads → Before xs s n (Some b) → Placed xs ys n (recorded s zs) (Ok tt) → v ≡ get_or links b None → ls ≡ set links b (Some m) ++ v ∷ [] → hs ≡ heads → m ≡ length xs → Linked ys ls hs
+chained_after xs ys links ls heads hs n s b m zs v h fresh lk bef (x, ey, en, er) ev el eh em =
+    let in_links : b < length links = omega (arith, bef.0, lk.long) in
+    let ls_is : set (links ++ get_or links b None ∷ []) b (Some (length xs)) ≡ ls = set-append_left links (get_or links b None ∷ []) b (Some (length xs)) in_links ∙ ap (λ w. set links b (Some (length xs)) ++ w ∷ []) (sym ev) ∙ ap (λ k. set links b (Some k) ++ v ∷ []) (sym em) ∙ sym el in
+    subst (λ bs. Linked bs ls hs) (sym ey)
+    (subst (λ ks. Linked (xs ++ x ∷ []) ls ks) (sym eh)
+    (subst (λ ks. Linked (xs ++ x ∷ []) ks heads) ls_is
     (linked_after xs h x (ap (λ k. is_none (look xs k)) en ∙ fresh) links heads s b (sym (ap (λ (q : Record). q.symbol) er)) lk
     (subst (λ k. Before xs s k (Some b)) (sym en) bef))))
 
-pub chained_first : (xs ys : List Row) (links links' heads : List (Option ℕ)) (n s m : ℕ) (zs : List Operand) (v : Option ℕ) → lawful xs ≡ true → is_none (look xs n) ≡ true → s < 32 → 1 ≤ n → Linked xs links heads → Before xs s n None → Placed xs ys n (recorded s zs) (Ok tt) → v ≡ get_or heads s None → links' ≡ links ++ v ∷ [] → m ≡ length xs → Linked ys links' (set heads s (Some m))
-chained_first xs ys links links' heads n s m zs v h fresh l32 one lk bef (x, ey, en, er) ev el em =
-    subst (λ bs. Linked bs links' (set heads s (Some m))) (sym ey)
-    (subst (λ k. Linked (xs ++ x ∷ []) links' (set heads s (Some k))) (sym em)
+pub chained_first : (xs ys : List Row) (links ls heads hs : List (Option ℕ)) (n s m : ℕ) (zs : List Operand) (v : Option ℕ) → lawful xs ≡ true → is_none (look xs n) ≡ true → s < 32 → 1 ≤ n → Linked xs links heads → Before xs s n None → Placed xs ys n (recorded s zs) (Ok tt) → v ≡ get_or heads s None → ls ≡ links ++ v ∷ [] → hs ≡ set heads s (Some m) → m ≡ length xs → Linked ys ls hs
+chained_first xs ys links ls heads hs n s m zs v h fresh l32 one lk bef (x, ey, en, er) ev el eh em =
+    subst (λ bs. Linked bs ls hs) (sym ey)
+    (subst (λ ks. Linked (xs ++ x ∷ []) ls ks) (sym (eh ∙ ap (λ k. set heads s (Some k)) em))
     (subst (λ ks. Linked (xs ++ x ∷ []) ks (set heads s (Some (length xs)))) (sym (el ∙ ap (λ w. links ++ w ∷ []) ev))
     (linked_first xs h x (ap (λ k. is_none (look xs k)) en ∙ fresh) links heads s (sym (ap (λ (q : Record). q.symbol) er)) l32 (omega arith) lk
     (subst (λ k. Before xs s k None) (sym en) bef))))

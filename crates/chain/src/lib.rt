@@ -117,7 +117,12 @@ impl PartnerTable for ChainTable {
         self.heads = [None; SYMBOLS];
     }
 
-    fn put(&mut self, identifier: u32, symbol: u8, arguments: &[Operand]) -> Result<(), PutRefusal> {
+    fn put(
+        &mut self,
+        identifier: u32,
+        symbol: u8,
+        arguments: &[Operand],
+    ) -> Result<(), PutRefusal> {
         let place = self.count();
         let last = self.before(symbol, identifier);
         self.rows.put(identifier, symbol, arguments)?;

@@ -1,5 +1,5 @@
 -- Two tables as one, and what is put into one of them.
-use Rattle.std.specs.Prelude.{◌≡◌, ℕ, zero, suc, Bool, true, false, cond, not, ◌||◌, List, [], ◌∷◌, ◌++◌, take, is_some, Option, nat_lt, refl}
+use Rattle.std.specs.Prelude.{◌≡◌, ℕ, zero, suc, Bool, true, false, cond, not, ◌||◌, List, [], ◌∷◌, ◌++◌, take, is_some, Option, Ok, Err, Result, nat_lt, refl}
 use Rattle.std.proofs.Common.{sym, ap, ◌∙◌, inl, inr}
 use Rattle.std.proofs.Math.Path.{fun_ext}
 use Rattle.std.proofs.lemmas.Bool.{cases_eq, eq-eqb, ne_eqb, both_ways}
@@ -8,8 +8,7 @@ use Rattle.terms.specs.Lists.{All}
 use Rattle.table.specs.Lists.{is_none, first}
 use Rattle.table.specs.Records.{Record, fit, symbol_of}
 use Rattle.table.specs.Tables.{Table, size, both, with_record, put_answer, put_after, judged}
-use Rattle.table.specs.declared.put.Put.{Put}
-use Rattle.table.specs.declared.put.Put.TheVariants.{Added, Unfit, Twice, Full}
+use Rattle.table.specs.declared.put.PutRefusal.{PutRefusal}
 
 pub take_none : {A : Type 0} (k : ℕ) → take {A = A} k [] ≡ []
 take_none zero = refl
@@ -50,24 +49,20 @@ with_behind s b n r e = fun_ext (λ i. elim (cases_eq n i) [
       ∙ sym (ap (λ t. cond t (cond (is_none (s n ++ b n)) (r ∷ []) (s n ++ b n)) (s i ++ b i)) (ne_eqb n i other))
 ])
 
-pub put_front : (s b : Table) (n : ℕ) (r : Record) (a : Put) → b n ≡ [] → both (put_after s n r a) b ≡ put_after (both s b) n r a
-put_front s b n r Added e = with_front s b n r e
-put_front s b n r Unfit e = refl
-put_front s b n r Twice e = refl
-put_front s b n r Full e = refl
+pub put_front : (s b : Table) (n : ℕ) (r : Record) (a : Result (Unit {0}) PutRefusal) → b n ≡ [] → both (put_after s n r a) b ≡ put_after (both s b) n r a
+put_front s b n r (Ok done) e = with_front s b n r e
+put_front s b n r (Err refusal) e = refl
 
-pub put_behind : (s b : Table) (n : ℕ) (r : Record) (a : Put) → s n ≡ [] → both s (put_after b n r a) ≡ put_after (both s b) n r a
-put_behind s b n r Added e = with_behind s b n r e
-put_behind s b n r Unfit e = refl
-put_behind s b n r Twice e = refl
-put_behind s b n r Full e = refl
+pub put_behind : (s b : Table) (n : ℕ) (r : Record) (a : Result (Unit {0}) PutRefusal) → s n ≡ [] → both s (put_after b n r a) ≡ put_after (both s b) n r a
+put_behind s b n r (Ok done) e = with_behind s b n r e
+put_behind s b n r (Err refusal) e = refl
 
 -- where a record stands already, nothing changes
 judged_known : (f m : Bool) (t : Table) (n : ℕ) (r : Record) → put_after t n r (judged f false m) ≡ t
 judged_known true m t n r = refl
 judged_known false m t n r = refl
 
-pub known_kept : (t : Table) (limit n : ℕ) (q : Record) (u : Table) (r : Record) (a : Put) → is_none (t n) ≡ false → a ≡ put_answer t limit n q → put_after u n r a ≡ u
+pub known_kept : (t : Table) (limit n : ℕ) (q : Record) (u : Table) (r : Record) (a : Result (Unit {0}) PutRefusal) → is_none (t n) ≡ false → a ≡ put_answer t limit n q → put_after u n r a ≡ u
 known_kept t limit n q u r a e h =
     ap (put_after u n r) (h ∙ ap (λ b. judged (fit n q) b (nat_lt (size t) limit)) e) ∙ judged_known (fit n q) (nat_lt (size t) limit) u n r
 

@@ -1,7 +1,7 @@
 // A partner table with a few rows of its own before another partner table.
 #![tactic(auto)]
 
-ghost use Rattle.std.specs.Prelude.{◌≡◌, true, take, IfOk};
+ghost use Rattle.std.specs.Prelude.{◌≡◌, ◌≤◌, true, take, IfOk, vec_len};
 ghost use Rattle.front.specs.Fronts.{own_limit, front_limit, own_records, front_records, OwnFirst};
 ghost use Rattle.table.specs.Records.{recorded, fit};
 ghost use Rattle.table.specs.Tables.{nothing, size, put_answer, put_after};
@@ -14,8 +14,7 @@ ghost use Rattle.table.specs.TablesLemmas.{size_both};
 
 use std::alloc::{AllocError, Global};
 use table::partner::PartnerTable;
-use table::put::Put;
-use table::row::Row;
+use table::put::PutRefusal;
 use table::rows;
 use table::rows::Rows;
 use terms::Operand;
@@ -28,11 +27,10 @@ const MOST: usize = 4_096;
 
 /// A partner table of 32 rows before another, or fewer where the two would pass 4,096. It fills its own rows first.
 #[derive(Drop)]
-pub struct FrontTable<P> {
-    /// Its own rows are the first of these, as many as it has.
-    own: Rows,
+pub struct FrontTable<P: PartnerTable> {
+    own: Rows<OWN>,
     behind: P,
-    ghost wide: { own.limit ≡ 32 },
+    ghost few: { vec_len own.items ≤ own_limit P.PartnerTable.limit },
 }
 
 impl<P: PartnerTable + Drop> FrontTable<P> {
@@ -40,8 +38,10 @@ impl<P: PartnerTable + Drop> FrontTable<P> {
     pub fn new(heap: Global, behind: P) -> Result<FrontTable<P>, AllocError>
         ensures { IfOk result (λ t. (own_records P.PartnerTable.limit t.own.items.items ≡ nothing) × (t.behind ≡ behind)) }
     {
-        let own = Rows::new(heap, OWN)?;
-        Ok(FrontTable { own, behind })
+        Ok(FrontTable {
+            own: Rows::new(heap)?,
+            behind,
+        })
     }
 }
 
@@ -57,31 +57,23 @@ impl<P: PartnerTable> FrontTable<P> {
     pub fn own_count(&self) -> usize
         ensures { result ≡ size (own_records P.PartnerTable.limit self.now.own.items.items) }
     {
-        self.own_rows().len()
-    }
-
-    /// Its own rows that are in use.
-    fn own_rows(&self) -> &[Row]
-        ensures { result.now ≡ take (own_limit P.PartnerTable.limit) self.now.own.items.items }
-    {
-        let rows = self.own.as_slice();
-        let count = self.own_capacity();
-        if count < rows.len() {
-            &rows[..count]
-        } else {
-            rows
-        }
+        self.own.count()
     }
 
     /// Adds a record as `put` does: to its own rows while one is free, else to the table behind.
-    pub fn put_own_first(&mut self, identifier: u32, symbol: u8, arguments: &[Operand]) -> Put
+    pub fn put_own_first(
+        &mut self,
+        identifier: u32,
+        symbol: u8,
+        arguments: &[Operand],
+    ) -> Result<(), PutRefusal>
         ensures value { result ≡ put_answer (front_records P.PartnerTable.limit self.old.own.items.items (P.PartnerTable.records self.old.behind)) (front_limit P.PartnerTable.limit) identifier (recorded symbol arguments.now) }
         ensures after { front_records P.PartnerTable.limit self.new.own.items.items (P.PartnerTable.records self.new.behind) ≡ put_after (front_records P.PartnerTable.limit self.old.own.items.items (P.PartnerTable.records self.old.behind)) identifier (recorded symbol arguments.now) result }
         ensures order { OwnFirst P.PartnerTable.limit (own_records P.PartnerTable.limit self.old.own.items.items) (P.PartnerTable.records self.old.behind) (own_records P.PartnerTable.limit self.new.own.items.items) (P.PartnerTable.records self.new.behind) identifier (recorded symbol arguments.now) result }
     {
-        let known = rows::position(self.own_rows(), identifier).is_some();
+        let known = rows::position(self.own.as_slice(), identifier).is_some();
         let elsewhere = self.behind.symbol(identifier).is_some();
-        let free = self.own.count() < self.own_capacity();
+        let free = self.own_count() < self.own_capacity();
         if known || (free && !elsewhere) {
             self.own.put(identifier, symbol, arguments)
         } else {
@@ -123,34 +115,33 @@ impl<P: PartnerTable> PartnerTable for FrontTable<P> {
         self.behind.clear();
     }
 
-    fn put(&mut self, identifier: u32, symbol: u8, arguments: &[Operand]) -> Put {
+    fn put(
+        &mut self,
+        identifier: u32,
+        symbol: u8,
+        arguments: &[Operand],
+    ) -> Result<(), PutRefusal> {
         self.put_own_first(identifier, symbol, arguments)
     }
 
     fn remove(&mut self, identifier: u32) -> bool {
-        // No row is ever put past its own, but the type does not say so.
-        let count = self.own_capacity();
-        self.own.truncate(count);
         let own = self.own.remove(identifier).is_some();
         let behind = self.behind.remove(identifier);
         own | behind
     }
 
     fn next(&self, symbol: Option<u8>, key: Option<i32>, above: u32) -> Option<u32> {
-        let own = rows::next(self.own_rows(), symbol, key, above);
+        let own = rows::next(self.own.as_slice(), symbol, key, above);
         let behind = self.behind.next(symbol, key, above);
         rows::lower(own, behind)
     }
 
     fn symbol(&self, identifier: u32) -> Option<u8> {
-        match rows::symbol(self.own_rows(), identifier) {
-            Some(symbol) => Some(symbol),
-            None => self.behind.symbol(identifier),
-        }
+        rows::symbol(self.own.as_slice(), identifier).or_else(|| self.behind.symbol(identifier))
     }
 
     fn argument(&self, identifier: u32, place: usize) -> Option<Operand> {
-        let rows = self.own_rows();
+        let rows = self.own.as_slice();
         if rows::position(rows, identifier).is_some() {
             rows::argument(rows, identifier, place)
         } else {

@@ -1,41 +1,37 @@
 use crate::calls::Call;
 use std::fmt;
 use table::partner::PartnerTable;
-use table::put::Put;
+use table::put::PutRefusal;
 use terms::Operand;
 
 /// What a table answers to a call.
-#[derive(Drop)]
+#[derive(Clone, Copy, Debug)]
 pub enum Answer {
-    Done,
-    Put(Put),
+    Cleared,
+    Count(usize),
+    Put(Result<(), PutRefusal>),
     Removed(bool),
-    Number(u32),
-    Value(i32),
-    Variable(u8),
-    Nothing,
+    Next(Option<u32>),
+    Symbol(Option<u8>),
+    Argument(Option<Operand>),
 }
 
 impl fmt::Display for Answer {
     fn fmt<W: fmt::Write>(&self, f: &mut fmt::Formatter<W>) -> fmt::Result {
         match self {
-            Answer::Done => write!(f, "done"),
-            Answer::Put(put) => write!(f, "{}", put_name(*put)),
+            Answer::Cleared => f.write_str("done"),
+            Answer::Count(count) => write!(f, "{count}"),
+            Answer::Put(Ok(())) => f.write_str("added"),
+            Answer::Put(Err(refusal)) => write!(f, "{refusal}"),
             Answer::Removed(removed) => write!(f, "{removed}"),
-            Answer::Number(number) => write!(f, "{number}"),
-            Answer::Value(value) => write!(f, "{value}"),
-            Answer::Variable(variable) => write!(f, "x{variable}"),
-            Answer::Nothing => write!(f, "none"),
+            Answer::Next(Some(identifier)) => write!(f, "{identifier}"),
+            Answer::Symbol(Some(symbol)) => write!(f, "{symbol}"),
+            Answer::Argument(Some(Operand::Value(value))) => write!(f, "{value}"),
+            Answer::Argument(Some(Operand::Variable(variable))) => write!(f, "x{variable}"),
+            Answer::Next(None) | Answer::Symbol(None) | Answer::Argument(None) => {
+                f.write_str("none")
+            }
         }
-    }
-}
-
-fn put_name(put: Put) -> &'static str {
-    match put {
-        Put::Added => "added",
-        Put::Unfit => "unfit",
-        Put::Twice => "twice",
-        Put::Full => "full",
     }
 }
 
@@ -44,39 +40,17 @@ pub(crate) fn make<P: PartnerTable>(table: &mut P, call: &Call) -> Answer {
     match call {
         Call::Clear => {
             table.clear();
-            Answer::Done
+            Answer::Cleared
         }
-        Call::Count => Answer::Number(table.count() as u32),
-        Call::Put(identifier, symbol, arguments) => Answer::Put(table.put(
-            *identifier,
-            *symbol,
-            arguments.as_slice(),
-        )),
+        Call::Count => Answer::Count(table.count()),
+        Call::Put(identifier, symbol, arguments) => {
+            Answer::Put(table.put(*identifier, *symbol, arguments.as_slice()))
+        }
         Call::Remove(identifier) => Answer::Removed(table.remove(*identifier)),
-        Call::Next(symbol, key, above) => number(table.next(*symbol, *key, *above)),
-        Call::Symbol(identifier) => small(table.symbol(*identifier)),
-        Call::Argument(identifier, place) => operand(table.argument(*identifier, *place)),
-    }
-}
-
-fn number(found: Option<u32>) -> Answer {
-    match found {
-        Some(number) => Answer::Number(number),
-        None => Answer::Nothing,
-    }
-}
-
-fn small(found: Option<u8>) -> Answer {
-    match found {
-        Some(number) => Answer::Number(number as u32),
-        None => Answer::Nothing,
-    }
-}
-
-fn operand(found: Option<Operand>) -> Answer {
-    match found {
-        Some(Operand::Value(value)) => Answer::Value(value),
-        Some(Operand::Variable(variable)) => Answer::Variable(variable),
-        None => Answer::Nothing,
+        Call::Next(symbol, key, above) => Answer::Next(table.next(*symbol, *key, *above)),
+        Call::Symbol(identifier) => Answer::Symbol(table.symbol(*identifier)),
+        Call::Argument(identifier, place) => {
+            Answer::Argument(table.argument(*identifier, *place))
+        }
     }
 }

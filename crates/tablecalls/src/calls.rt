@@ -1,6 +1,7 @@
-use anyhow::anyhow;
+use anyhow::{Context, anyhow};
 use std::alloc::Global;
-use std::str::SplitWhitespace;
+use std::num::ParseIntError;
+use std::str::{FromStr, SplitWhitespace};
 use terms::Operand;
 
 /// A call of a partner table.
@@ -17,57 +18,38 @@ pub enum Call {
 
 /// The call that a line says: its name and its arguments, with spaces between them. None is written `-`, and the variable 5 `x5`.
 pub(crate) fn parse(heap: Global, line: &str) -> anyhow::Result<Call> {
-    let mut words = line.split_whitespace();
-    let name = word(&mut words)?;
-    match name {
+    let words = &mut line.split_whitespace();
+    match word(words)? {
         "clear" => Ok(Call::Clear),
         "count" => Ok(Call::Count),
-        "remove" => Ok(Call::Remove(word(&mut words)?.parse::<u32>()?)),
-        "symbol" => Ok(Call::Symbol(word(&mut words)?.parse::<u32>()?)),
-        "argument" => parse_argument(&mut words),
-        "next" => parse_next(&mut words),
-        "put" => parse_put(heap, &mut words),
+        "remove" => Ok(Call::Remove(word(words)?.parse()?)),
+        "symbol" => Ok(Call::Symbol(word(words)?.parse()?)),
+        "argument" => Ok(Call::Argument(word(words)?.parse()?, word(words)?.parse()?)),
+        "next" => Ok(Call::Next(
+            parse_optional(word(words)?)?,
+            parse_optional(word(words)?)?,
+            word(words)?.parse()?,
+        )),
+        "put" => parse_put(heap, words),
         _ => Err(anyhow!("no such call")),
     }
 }
 
 fn word<'a>(words: &mut SplitWhitespace<'a>) -> anyhow::Result<&'a str> {
-    match words.next() {
-        Some(word) => Ok(word),
-        None => Err(anyhow!("a word is missing")),
+    words.next().context("a word is missing")
+}
+
+/// The number that a word says; `-` says none.
+fn parse_optional<T: FromStr<Err = ParseIntError>>(word: &str) -> anyhow::Result<Option<T>> {
+    match word {
+        "-" => Ok(None),
+        number => Ok(Some(number.parse()?)),
     }
-}
-
-fn parse_argument(words: &mut SplitWhitespace<'_>) -> anyhow::Result<Call> {
-    let identifier = word(words)?.parse::<u32>()?;
-    let place = word(words)?.parse::<usize>()?;
-    Ok(Call::Argument(identifier, place))
-}
-
-fn parse_next(words: &mut SplitWhitespace<'_>) -> anyhow::Result<Call> {
-    let symbol = parse_symbol(word(words)?)?;
-    let key = parse_key(word(words)?)?;
-    let above = word(words)?.parse::<u32>()?;
-    Ok(Call::Next(symbol, key, above))
-}
-
-fn parse_symbol(text: &str) -> anyhow::Result<Option<u8>> {
-    if text == "-" {
-        return Ok(None);
-    }
-    Ok(Some(text.parse::<u8>()?))
-}
-
-fn parse_key(text: &str) -> anyhow::Result<Option<i32>> {
-    if text == "-" {
-        return Ok(None);
-    }
-    Ok(Some(text.parse::<i32>()?))
 }
 
 fn parse_put(heap: Global, words: &mut SplitWhitespace<'_>) -> anyhow::Result<Call> {
-    let identifier = word(words)?.parse::<u32>()?;
-    let symbol = word(words)?.parse::<u8>()?;
+    let identifier = word(words)?.parse()?;
+    let symbol = word(words)?.parse()?;
     let mut arguments = Vec::new(heap);
     for text in words {
         arguments.push(parse_operand(text)?)?;
@@ -77,7 +59,7 @@ fn parse_put(heap: Global, words: &mut SplitWhitespace<'_>) -> anyhow::Result<Ca
 
 fn parse_operand(text: &str) -> anyhow::Result<Operand> {
     match text.strip_prefix("x") {
-        Some(number) => Ok(Operand::Variable(number.parse::<u8>()?)),
-        None => Ok(Operand::Value(text.parse::<i32>()?)),
+        Some(number) => Ok(Operand::Variable(number.parse()?)),
+        None => Ok(Operand::Value(text.parse()?)),
     }
 }

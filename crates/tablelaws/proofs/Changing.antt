@@ -1,12 +1,11 @@
 -- Runs of changes: at most one record under each identifier, and two tables alike.
-use Rattle.std.proofs.Common.{◌≡◌, ℕ, ◌+◌, ◌<◌, ◌≤◌, Bool, true, false, cond, ◌&&◌, eqb, ltb, List, [], ◌∷◌, length, get_or, drop, vec_items, sym, refl, ap, ◌∙◌, subst, arith}
+use Rattle.std.proofs.Common.{◌≡◌, ℕ, ◌+◌, ◌<◌, ◌≤◌, Bool, true, false, cond, ◌&&◌, eqb, ltb, List, [], ◌∷◌, length, get_or, drop, vec_items, Ok, Err, Result, sym, refl, ap, ◌∙◌, subst, arith}
 use Rattle.std.proofs.lemmas.List.{at_drop_more, at_drop_all}
 use Rattle.std.proofs.lemmas.Bool.{and_parts, both_ways}
 use Rattle.table.specs.Lists.{is_none, memberb}
 use Rattle.table.specs.Records.{Record, recorded, fit}
 use Rattle.table.specs.Tables.{Table, size, nothing, with_record, without, judged, put_answer, put_after}
-use Rattle.table.specs.declared.put.Put.{Put}
-use Rattle.table.specs.declared.put.Put.TheVariants.{Added, Unfit, Twice, Full}
+use Rattle.table.specs.declared.put.PutRefusal.{PutRefusal}
 use Rattle.table.specs.NextsLemmas.{least_one}
 use Rattle.tablelaws.specs.Changes.{changed, changed_all, not_full, finds_room, all_find_room, AtMostOne, NextAlike}
 use Rattle.tablelaws.specs.declared.changes.Change.{Change}
@@ -28,11 +27,9 @@ single_without t gone h i = go (memberb i gone)
     go true = omega arith
     go false = h i
 
-single_put : (t : Table) (n : ℕ) (r : Record) (a : Put) → AtMostOne t → AtMostOne (put_after t n r a)
-single_put t n r Added h = single_with t n r h
-single_put t n r Unfit h = h
-single_put t n r Twice h = h
-single_put t n r Full h = h
+single_put : (t : Table) (n : ℕ) (r : Record) (a : Result (Unit {0}) PutRefusal) → AtMostOne t → AtMostOne (put_after t n r a)
+single_put t n r (Ok done) h = single_with t n r h
+single_put t n r (Err refusal) h = h
 
 single_changed : (limit : ℕ) (c : Change) (t : Table) → AtMostOne t → AtMostOne (changed limit c t)
 single_changed limit change.Clear t h = λ i. omega arith

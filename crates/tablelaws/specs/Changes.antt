@@ -1,10 +1,10 @@
 -- What a list of changes makes of a table. Assumes nothing.
-use Rattle.std.specs.Prelude.{◌≡◌, ℕ, ◌≤◌, Bool, true, false, ◌&&◌, List, [], ◌∷◌, length, ℤ, vec_items, Option}
+use Rattle.std.specs.Prelude.{◌≡◌, ℕ, ◌≤◌, Bool, true, false, ◌&&◌, List, [], ◌∷◌, length, ℤ, vec_items, Option, Ok, Err, Result}
 use Rattle.table.specs.Nexts.{NextOf}
 use Rattle.table.specs.Records.{recorded}
 use Rattle.table.specs.Tables.{Table, nothing, without, put_answer, put_after}
-use Rattle.table.specs.declared.put.Put.{Put}
-use Rattle.table.specs.declared.put.Put.TheVariants.{Added, Unfit, Twice, Full}
+use Rattle.table.specs.declared.put.PutRefusal.{PutRefusal}
+use Rattle.table.specs.declared.put.PutRefusal.TheVariants.{Unfit, Twice, Full}
 use Rattle.tablelaws.specs.declared.changes.Change.{Change}
 use Rattle.tablelaws.specs.declared.changes.Change.TheVariants as change
 
@@ -20,11 +20,11 @@ changed_all limit [] t = t
 changed_all limit (c ∷ cs) t = changed_all limit cs (changed limit c t)
 
 -- any answer but full
-abbrev pub not_full : Put → Bool
-not_full Added = true
-not_full Unfit = true
-not_full Twice = true
-not_full Full = false
+abbrev pub not_full : Result (Unit {0}) PutRefusal → Bool
+not_full (Ok done) = true
+not_full (Err Unfit) = true
+not_full (Err Twice) = true
+not_full (Err Full) = false
 
 -- whether the change is no put that is answered full
 abbrev pub finds_room : ℕ → Change → Table → Bool

@@ -8,31 +8,31 @@ mod tests {
     use std::alloc::{AllocError, Global};
     use std::test::Fail;
     use table::partner::PartnerTable;
-    use table::put::Put;
+    use table::put::PutRefusal;
     use table::scan::ScanTable;
     use tablelaws::changes::{Change, alike, perform};
     use tablelaws::visits::visit;
     use terms::Operand;
 
     // A record of symbol 3 that is open by a variable, one with the key 7, one with the key 8, and one with no argument.
-    fn keyed<P: PartnerTable>(table: &mut P) {
-        let _ = table.put(8, 3, &[Operand::Variable(1)]);
-        let _ = table.put(10, 3, &[Operand::Value(7)]);
-        let _ = table.put(12, 3, &[Operand::Value(8), Operand::Value(7)]);
-        let _ = table.put(14, 3, &[]);
+    fn keyed<P: PartnerTable>(table: &mut P) -> Result<(), PutRefusal> {
+        table.put(8, 3, &[Operand::Variable(1)])?;
+        table.put(10, 3, &[Operand::Value(7)])?;
+        table.put(12, 3, &[Operand::Value(8), Operand::Value(7)])?;
+        table.put(14, 3, &[])
     }
 
-    // Puts `count` records under the identifiers from `from` on.
+    // Puts `count` records under the identifiers from `from` on, as far as there is room.
     fn fill<P: PartnerTable>(table: &mut P, from: u32, count: u32, symbol: u8) {
-        for step in 0..count {
-            let _ = table.put(from.saturating_add(step), symbol, &[]);
+        for identifier in from..from.saturating_add(count) {
+            let _ = table.put(identifier, symbol, &[]);
         }
     }
 
     #[test]
     fn an_open_record_answers_to_every_key(rt: HostRuntime) -> Result<(), Fail> {
         let mut table = ScanTable::new(rt.alloc())?;
-        keyed(&mut table);
+        keyed(&mut table)?;
         assert_eq!(rt; table.next(Some(3), Some(9), 0), Some(8));
         assert_eq!(rt; table.next(Some(3), Some(9), 8), Some(14));
         assert_eq!(rt; table.next(Some(3), Some(8), 8), Some(12));
@@ -44,11 +44,11 @@ mod tests {
     #[test]
     fn a_chain_closes_over_its_head_middle_and_end(rt: HostRuntime) -> Result<(), Fail> {
         let mut table = ChainTable::new(rt.alloc())?;
-        keyed(&mut table);
+        keyed(&mut table)?;
         assert!(rt; table.remove(10) && table.remove(8) && table.remove(14) && !table.remove(14));
         assert_eq!(rt; table.next(Some(3), None, 0), Some(12));
         assert_eq!(rt; table.next(Some(3), None, 12), None);
-        assert!(rt; matches!(table.put(9, 3, &[]), Put::Added));
+        assert_eq!(rt; table.put(9, 3, &[]), Ok(()));
         assert_eq!(rt; table.next(Some(3), None, 0), Some(9));
         assert_eq!(rt; table.next(Some(3), None, 9), Some(12));
         Ok(())
@@ -61,11 +61,10 @@ mod tests {
         assert_eq!(rt; table.count(), 200);
         fill(&mut table, 301, 100, 1);
         assert_eq!(rt; table.count(), 256);
-        assert!(rt; matches!(table.put(900, 0, &[]), Put::Full) && table.remove(20));
-        assert!(rt;
-            matches!(table.put(900, 0, &[]), Put::Added)
-                && matches!(table.put(901, 0, &[]), Put::Full)
-        );
+        assert_eq!(rt; table.put(900, 0, &[]), Err(PutRefusal::Full));
+        assert!(rt; table.remove(20));
+        assert_eq!(rt; table.put(900, 0, &[]), Ok(()));
+        assert_eq!(rt; table.put(901, 0, &[]), Err(PutRefusal::Full));
         assert_eq!(rt; table.next(Some(0), None, 200), Some(900));
         Ok(())
     }
@@ -80,11 +79,10 @@ mod tests {
         fill(&mut table, 401, 100, 0);
         assert_eq!(rt; table.count(), 288);
         assert!(rt; table.remove(3) && table.own_count() == 31 && table.count() == 287);
-        assert!(rt; matches!(table.put(900, 0, &[]), Put::Added) && table.own_count() == 32);
-        assert!(rt;
-            matches!(table.put(901, 0, &[]), Put::Full)
-                && matches!(table.put(150, 0, &[]), Put::Twice)
-        );
+        assert_eq!(rt; table.put(900, 0, &[]), Ok(()));
+        assert_eq!(rt; table.own_count(), 32);
+        assert_eq!(rt; table.put(901, 0, &[]), Err(PutRefusal::Full));
+        assert_eq!(rt; table.put(150, 0, &[]), Err(PutRefusal::Twice));
         Ok(())
     }
 
@@ -92,11 +90,11 @@ mod tests {
     fn a_front_of_a_front_holds_320(rt: HostRuntime) -> Result<(), Fail> {
         let front = FrontTable::new(rt.alloc(), ChainTable::new(rt.alloc())?)?;
         let mut table = FrontTable::new(rt.alloc(), front)?;
-        keyed(&mut table);
+        keyed(&mut table)?;
         assert!(rt; table.capacity() == 320 && table.count() == 4);
         assert_eq!(rt; table.symbol(12), Some(3));
-        assert_eq!(rt; table.argument(12, 1).is_some(), true);
-        assert_eq!(rt; table.argument(12, 2).is_some(), false);
+        assert_eq!(rt; table.argument(12, 1), Some(Operand::Value(7)));
+        assert_eq!(rt; table.argument(12, 2), None);
         Ok(())
     }
 
@@ -104,15 +102,14 @@ mod tests {
     fn what_is_no_record_is_unfit(rt: HostRuntime) -> Result<(), Fail> {
         let mut table = ScanTable::new(rt.alloc())?;
         let many = [Operand::Variable(0); 5];
-        assert!(rt;
-            matches!(table.put(0, 0, &[]), Put::Unfit)
-                && matches!(table.put(1_000_001, 0, &[]), Put::Unfit)
+        assert_eq!(rt; table.put(0, 0, &[]), Err(PutRefusal::Unfit));
+        assert_eq!(rt; table.put(1_000_001, 0, &[]), Err(PutRefusal::Unfit));
+        assert_eq!(rt; table.put(1, 32, &[]), Err(PutRefusal::Unfit));
+        assert_eq!(rt; table.put(1, 0, &many), Err(PutRefusal::Unfit));
+        assert_eq!(rt;
+            table.put(1, 0, &[Operand::Value(1_000_001)]),
+            Err(PutRefusal::Unfit)
         );
-        assert!(rt;
-            matches!(table.put(1, 32, &[]), Put::Unfit)
-                && matches!(table.put(1, 0, &many), Put::Unfit)
-        );
-        assert!(rt; matches!(table.put(1, 0, &[Operand::Value(1_000_001)]), Put::Unfit));
         assert_eq!(rt; table.count(), 0);
         Ok(())
     }
@@ -137,8 +134,7 @@ mod tests {
                 && perform(&mut scan, changes.as_slice())
         );
         let found = visit(rt.alloc(), &table, Some(1), None)?;
-        assert!(rt; found.len() == 2);
-        assert!(rt; found[0] == 4 && found[1] == 5);
+        assert_eq!(rt; found.as_slice(), [4, 5].as_slice());
         Ok(())
     }
 }

@@ -4,7 +4,7 @@ ghost use Rattle.tablelaws.specs.Changes.{changed, changed_all, finds_room, all_
 
 use super::Change;
 use table::partner::PartnerTable;
-use table::put::Put;
+use table::put::PutRefusal;
 
 /// Makes a change, and says whether it was no put that was answered full.
 fn make<P: PartnerTable>(table: &mut P, change: &Change) -> bool
@@ -17,10 +17,7 @@ fn make<P: PartnerTable>(table: &mut P, change: &Change) -> bool
             true
         }
         Change::Put(identifier, symbol, arguments) => {
-            !matches!(
-                table.put(*identifier, *symbol, arguments.as_slice()),
-                Put::Full
-            )
+            table.put(*identifier, *symbol, arguments.as_slice()) != Err(PutRefusal::Full)
         }
         Change::Remove(identifier) => {
             let _ = table.remove(*identifier);
@@ -39,8 +36,7 @@ pub fn perform<P: PartnerTable>(table: &mut P, changes: &[Change]) -> bool
     table.clear();
     let mut roomy = true;
     for change in changes {
-        let found = make(table, change);
-        roomy &= found;
+        roomy &= make(table, change);
     }
     roomy
 }

@@ -6,13 +6,11 @@ use Rattle.chain.proofs.Cuts.{chained_cut}
 use Rattle.chain.proofs.Links.{linked}
 use Rattle.chain.proofs.ChainTablePartnerTable.remove.Goals as goal
 
-pub remove-rest-requires : goal.remove-rest-requires
-remove-rest-requires c =
-    let t = c.args.self.now in
-    omega (arith, c.in-Some.ensures.place.0, (linked t.linked).long, t.links.ok.0)
+pub returns-in_default-clause-value : goal.returns-in_default-clause-value
+returns-in_default-clause-value c = taken_some (vec_items c.args.self.now.rows.items) (vec_items c.remove.new.self.items) c.args.identifier None c.in_default.ensures.place
 
-pub invariant_of-self : goal.invariant_of-self
-invariant_of-self c =
+pub invariant_of-self-2-clause-linked : goal.invariant_of-self-2-clause-linked
+invariant_of-self-2-clause-linked c =
     let t = c.args.self.now in
     let xs = vec_items t.rows.items in
     let links = vec_items t.links in
@@ -22,18 +20,12 @@ invariant_of-self c =
     let f = relinked p c.remove-rest.result in
     let ws = c.relink.new.links in
     let ew : ws ≡ map f ls = c.relink.ensures ∙ ap (map f) c.as_mut_slice.ensures.value in
-    record {
-      wide = (c.remove.ensures.limit ∙ t.wide.0, omega (arith, c.remove-rest.ensures.capacity, t.wide));
-      linked =
-          ∣ chained_cut xs (vec_items c.remove.new.self.items) links ls _ t.heads _ p c.remove-rest.result blank t.rows.ok.0 at.0 (linked t.linked)
-          at.2 c.remove-rest.ensures.items
-          (get_or_read links p c.remove-rest.result (omega (arith, at.0, (linked t.linked).long)) c.remove-rest.ensures.value None)
-          (with_items_is c.remove-rest.new.self ws (ap length ew ∙ length-map ls f ∙ sym c.remove-rest.new.self.ok.0) ∙ ew)
-          c.relink-in-Some.ensures ∣₁;
-    }
+    ∣ chained_cut xs (vec_items c.remove.new.self.items) links ls _ t.heads _ p c.remove-rest.result blank t.rows.ok.0 at.0 (linked t.linked)
+    at.2 c.remove-rest.ensures.items
+    (get_or_read links p c.remove-rest.result (omega (arith, at.0, (linked t.linked).long)) c.remove-rest.ensures.value None)
+    (with_items_is c.remove-rest.new.self ws (ap length ew ∙ length-map ls f ∙ sym c.remove-rest.new.self.ok.0) ∙ ew)
+    c.relink-2.ensures ∣₁
 
-pub returns-in-Some : goal.returns-in-Some
-returns-in-Some c = record {
-  value = taken_some (vec_items c.args.self.now.rows.items) (vec_items c.remove.new.self.items) c.args.identifier (Some c.in-Some.place) c.in-Some.ensures.place;
-  after = c.remove.ensures.after;
-}
+pub returns-clause-value : goal.returns-clause-value
+returns-clause-value c =
+    taken_some (vec_items c.args.self.now.rows.items) (vec_items c.remove.new.self.items) c.args.identifier (Some c.in-Some.place) c.in-Some.ensures.place

@@ -16,9 +16,9 @@ loop-change-preserved g c =
     let cs = c.args.changes.now in
     let k = c.loop-change.change-index in
     let t = g.P.PartnerTable.records c.loop-change.table in
-    let u = g.P.PartnerTable.records c.make-found.new.table in (
-      run_more limit cs k c.change-item.result t u c.loop-change-test.true c.change-item.is c.make-found.ensures.after ∙ c.loop-change.invariant.0,
-      rooms_more limit cs k c.change-item.result t u c.loop-change.roomy c.make-found.result c.loop-change-test.true c.change-item.is c.make-found.ensures.after c.make-found.ensures.value
+    let u = g.P.PartnerTable.records c.make-roomy.new.table in (
+      run_more limit cs k c.change-item.result t u c.loop-change-test.true c.change-item.is c.make-roomy.ensures.after ∙ c.loop-change.invariant.0,
+      rooms_more limit cs k c.change-item.result t u c.loop-change.roomy c.make-roomy.result c.loop-change-test.true c.change-item.is c.make-roomy.ensures.after c.make-roomy.ensures.value
           ∙ c.loop-change.invariant.1,
     )
 
