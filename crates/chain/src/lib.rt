@@ -19,6 +19,7 @@ use terms::Operand;
 const ROWS: usize = 256;
 
 /// A partner table of 256 rows, those of each symbol linked by rising identifier.
+// Links are places, since nothing is allocated after opening, and lie beside the rows, since the rows of other tables have none.
 #[derive(Drop)]
 pub struct ChainTable {
     rows: Rows<ROWS>,
@@ -55,6 +56,8 @@ impl ChainTable {
     {
         (self.rows.as_slice()[place], self.links[place])
     }
+
+    // The walks of `next_of` and `before` are loops: an iterator over links would have to say all places to come, where a loop speaks of the next alone.
 
     /// The next of a symbol, along its chain.
     fn next_of(&self, symbol: u8, key: Option<i32>, above: u32) -> Option<u32>

@@ -1,5 +1,5 @@
 -- Two tables as one, and what is put into one of them.
-use Rattle.std.specs.Prelude.{◌≡◌, ℕ, zero, suc, Bool, true, false, cond, not, ◌||◌, List, [], ◌∷◌, ◌++◌, take, is_some, Option, Ok, Err, Result, nat_lt, refl}
+use Rattle.std.specs.Prelude.{◌≡◌, ℕ, Bool, true, false, cond, not, ◌||◌, List, [], ◌∷◌, ◌++◌, is_some, Option, Ok, Err, Result, nat_lt, refl}
 use Rattle.std.proofs.Common.{sym, ap, ◌∙◌, inl, inr}
 use Rattle.std.proofs.Math.Path.{fun_ext}
 use Rattle.std.proofs.lemmas.Bool.{cases_eq, eq-eqb, ne_eqb, both_ways}
@@ -9,10 +9,6 @@ use Rattle.table.specs.Lists.{is_none, first}
 use Rattle.table.specs.Records.{Record, fit, symbol_of}
 use Rattle.table.specs.Tables.{Table, size, both, with_record, put_answer, put_after, judged}
 use Rattle.table.specs.declared.put.PutRefusal.{PutRefusal}
-
-pub take_none : {A : Type 0} (k : ℕ) → take {A = A} k [] ≡ []
-take_none zero = refl
-take_none (suc k) = refl
 
 pub all_append : {A : Type 0} (P : A → Type 0) (xs ys : List A) → All P xs → All P ys → All P (xs ++ ys)
 all_append P [] ys p q = q

@@ -67,8 +67,8 @@ impl<P: PartnerTable> FrontTable<P> {
         symbol: u8,
         arguments: &[Operand],
     ) -> Result<(), PutRefusal>
-        ensures value { result ≡ put_answer (front_records P.PartnerTable.limit self.old.own.items.items (P.PartnerTable.records self.old.behind)) (front_limit P.PartnerTable.limit) identifier (recorded symbol arguments.now) }
-        ensures after { front_records P.PartnerTable.limit self.new.own.items.items (P.PartnerTable.records self.new.behind) ≡ put_after (front_records P.PartnerTable.limit self.old.own.items.items (P.PartnerTable.records self.old.behind)) identifier (recorded symbol arguments.now) result }
+        ensures value { result ≡ put_answer (⟦<FrontTable<P> as PartnerTable>⟧.records self.old) ⟦<FrontTable<P> as PartnerTable>⟧.limit identifier (recorded symbol arguments.now) }
+        ensures after { ⟦<FrontTable<P> as PartnerTable>⟧.records self.new ≡ put_after (⟦<FrontTable<P> as PartnerTable>⟧.records self.old) identifier (recorded symbol arguments.now) result }
         ensures order { OwnFirst P.PartnerTable.limit (own_records P.PartnerTable.limit self.old.own.items.items) (P.PartnerTable.records self.old.behind) (own_records P.PartnerTable.limit self.new.own.items.items) (P.PartnerTable.records self.new.behind) identifier (recorded symbol arguments.now) result }
     {
         let known = rows::position(self.own.as_slice(), identifier).is_some();

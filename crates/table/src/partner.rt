@@ -9,6 +9,7 @@ use crate::put::PutRefusal;
 use terms::Operand;
 
 /// A set of records, each under an identifier, with a symbol and up to four arguments.
+// `put` and `next` take the parts of a record one by one, as docs/tables.md lays down.
 pub trait PartnerTable {
     /// The records under each identifier.
     ghost records: { Self → Table };

@@ -23,10 +23,9 @@ fn read_calls(rt: &HostRuntime) -> anyhow::Result<Vec<Call>> {
 fn print_answers<P: PartnerTable + Drop>(
     rt: &HostRuntime,
     name: &str,
-    table: P,
+    mut table: P,
     calls: &[Call],
 ) -> anyhow::Result<()> {
-    let mut table = table;
     println!(rt; "{name} holds {}", table.capacity())?;
     for call in calls {
         let answer = make(&mut table, call);
