@@ -16,9 +16,6 @@ trail_low : (xs : List Row) (s n : ℕ) (last at : Option ℕ) → Trail xs s n 
 trail_low xs s n None at tr = (0, tr)
 trail_low xs s n (Some j) at tr = ((get_or xs j blank).identifier, (tr.1 blank).2)
 
-pub trail_in : (xs : List Row) (s n : ℕ) (last : Option ℕ) (k : ℕ) → Trail xs s n last (Some k) → k < length xs
-trail_in xs s n last k tr = (trail_low xs s n last (Some k) tr).1.0
-
 pub trail_next : (xs : List Row) (s n : ℕ) (last o : Option ℕ) (k : ℕ) (x : Row) → lawful xs ≡ true → Trail xs s n last (Some k) → Stands xs k x o → x.identifier < n → Trail xs s n (Some k) o
 trail_next xs s n last o k x h tr st l =
     let at = trail_low xs s n last (Some k) tr in (

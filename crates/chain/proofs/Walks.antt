@@ -1,24 +1,14 @@
 -- A walk along a chain.
-use Rattle.std.proofs.Common.{◌≡◌, ℕ, zero, suc, ◌-◌, ◌^◌, ◌<◌, ◌≤◌, true, false, eqb, List, [], ◌∷◌, length, get_or, ℤ, Some, None, Option, sym, refl, ap, ◌∙◌, subst, inl, inr, arith}
+use Rattle.std.proofs.Common.{◌≡◌, ℕ, zero, suc, ◌<◌, ◌≤◌, true, false, eqb, List, [], ◌∷◌, length, get_or, ℤ, Some, None, Option, sym, refl, ap, ◌∙◌, subst, inl, inr, arith}
 use Rattle.std.proofs.lemmas.Bool.{cases_lt, cases_Bool, both_ways, and_parts, and_from, and_left, and_right, or_from, or_parts, eqb-true, eq-eqb, ne_eqb}
 use Rattle.terms.specs.Lists.{All}
 use Rattle.table.specs.Records.{Record, fit}
 use Rattle.table.specs.Nexts.{NextOf, answers, any_answers, has_symbol}
 use Rattle.table.specs.Rows.{look, lawful, record_of}
 use Rattle.table.specs.declared.row.Row.{Row}
-use Rattle.table.specs.Looks.{look_read, symbol_fit}
+use Rattle.table.specs.Looks.{look_read, look_fits, high_fit, symbol_fit}
 use Rattle.table.specs.NextsLemmas.{any_one}
-use Rattle.chain.specs.Chains.{To, Stands}
-
--- What is left of a chain, as a number that falls.
-abbrev pub ident_at : List Row → ℕ → ℕ
-ident_at [] k = 0
-ident_at (x ∷ xs) zero = x.identifier
-ident_at (x ∷ xs) (suc k) = ident_at xs k
-
-abbrev pub left : List Row → Option ℕ → ℕ
-left rows None = 0
-left rows (Some k) = suc (2 ^ 32) - ident_at rows k
+use Rattle.chain.specs.Chains.{To, Stands, ident_at, left}
 
 -- A walk along a chain has passed no answer.
 abbrev pub Way : List Row → ℕ → Option ℤ → ℕ → Option ℕ → Type 0
@@ -99,7 +89,12 @@ module _ (xs : List Row) (lawful_xs : lawful xs ≡ true) (s : ℕ) (key : Optio
   ]
 
 -- a step along a chain leaves less of it
-pub chain_falls : (xs : List Row) (k : ℕ) (x : Row) (o : Option ℕ) → k < length xs → Stands xs k x o → x.identifier < 2 ^ 32 → left xs o < left xs (Some k)
-chain_falls xs k x None l st f = omega (arith, ident_is xs k x l, ap (λ (y : Row). y.identifier) (st.at x))
-chain_falls xs k x (Some j) l st f =
-    omega (arith, ident_is xs k x l, ap (λ (y : Row). y.identifier) (st.at x), ident_is xs j x st.next.0, (st.next.1 x).0)
+pub chain_falls : (xs : List Row) (k : ℕ) (x : Row) (o : Option ℕ) → lawful xs ≡ true → k < length xs → Stands xs k x o → left xs o < left xs (Some k)
+chain_falls xs k x o h l st = go o st.next
+  where
+    high : (get_or xs k x).identifier ≤ 1000000
+    high = high_fit (get_or xs k x).identifier (record_of (get_or xs k x)) (subst (λ rs. All (λ r. fit (get_or xs k x).identifier r ≡ true) rs) (look_read xs k x h l) (look_fits xs h (get_or xs k x).identifier)).0
+
+    go : (p : Option ℕ) → To xs p x.symbol x.identifier → left xs p < left xs (Some k)
+    go None to = omega (arith, ident_is xs k x l, high)
+    go (Some j) to = omega (arith, ident_is xs k x l, high, ap (λ (y : Row). y.identifier) (st.at x), ident_is xs j x to.0, (to.1 x).0)

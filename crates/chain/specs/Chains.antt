@@ -1,5 +1,5 @@
 -- Rows that are linked by rising identifier, those of each symbol. Assumes nothing.
-use Rattle.std.specs.Prelude.{◌≡◌, ℕ, ◌-◌, ◌<◌, false, cond, List, length, get_or, Some, None, Option, ◌==◌, nat_lt, slice_index_or}
+use Rattle.std.specs.Prelude.{◌≡◌, ℕ, zero, suc, ◌-◌, ◌<◌, false, cond, List, [], ◌∷◌, length, get_or, Some, None, Option, ◌==◌, nat_lt, slice_index_or}
 use Rattle.table.specs.Nexts.{NextOf, any_answers}
 use Rattle.table.specs.Rows.{look}
 use Rattle.table.specs.declared.row.Row.{Row}
@@ -20,6 +20,22 @@ pub record Linked (rows : List Row) (links heads : List (Option ℕ)) : Type 0 w
 pub record Stands (rows : List Row) (k : ℕ) (x : Row) (link : Option ℕ) : Type 0 where
   pub at : (d : Row) → x ≡ slice_index_or rows k d
   pub next : To rows link x.symbol x.identifier
+
+-- the identifier at a place, 0 past the last
+abbrev pub ident_at : List Row → ℕ → ℕ
+ident_at [] k = 0
+ident_at (x ∷ xs) zero = x.identifier
+ident_at (x ∷ xs) (suc k) = ident_at xs k
+
+-- what is left of a chain, as a number that falls
+abbrev pub left : List Row → Option ℕ → ℕ
+left rows None = 0
+left rows (Some k) = 1000001 - ident_at rows k
+
+-- a step along a chain from one link to the next, with the place and the row passed; none is passed at the end
+abbrev pub Steps : List Row → Option ℕ → Option (ℕ × Row) → Option ℕ → Type 0
+Steps rows at None next = (at ≡ None) × (next ≡ None)
+Steps rows at (Some p) next = (at ≡ Some p.0) × Stands rows p.0 p.1 next
 
 -- the last row of a symbol below an identifier, or none where there is no such row
 abbrev pub Before : List Row → ℕ → ℕ → Option ℕ → Type 0

@@ -8,6 +8,9 @@ ghost use Rattle.table.specs.Tables.{nothing};
 ghost use Rattle.table.specs.Looks.{look_fits, size_look};
 ghost use Rattle.std.proofs.Common.{arith, rules};
 
+mod walk;
+
+use self::walk::Chain;
 use std::alloc::{AllocError, Global};
 use table::partner::PartnerTable;
 use table::put::PutRefusal;
@@ -49,6 +52,17 @@ impl ChainTable {
         *self.heads.get(symbol as usize)?
     }
 
+    /// The chain of a symbol.
+    fn chain(&self, symbol: u8) -> Chain<'_>
+        ensures table { result.table.now ≡ self.now }
+        ensures head { To self.now.rows.items.items result.at symbol 0 }
+    {
+        Chain {
+            table: self,
+            at: self.head(symbol),
+        }
+    }
+
     /// The row at a place, and the place of the next row of its symbol.
     fn stand(&self, place: usize) -> (Row, Option<usize>)
         requires { place < vec_len self.now.rows.items }
@@ -57,20 +71,15 @@ impl ChainTable {
         (self.rows.as_slice()[place], self.links[place])
     }
 
-    // The walks of `next_of` and `before` are loops: an iterator over links would have to say all places to come, where a loop speaks of the next alone.
-
     /// The next of a symbol, along its chain.
     fn next_of(&self, symbol: u8, key: Option<i32>, above: u32) -> Option<u32>
         ensures { NextOf (look self.now.rows.items.items) (Some symbol) key above result }
     {
-        let mut at = self.head(symbol);
-        while let Some(place) = at {
-            let (row, rest) = self.stand(place);
+        for (_, row) in self.chain(symbol) {
             let identifier = row.identifier();
             if identifier > above && row.answers(None, key) {
                 return Some(identifier);
             }
-            at = rest;
         }
         None
     }
@@ -80,14 +89,11 @@ impl ChainTable {
         ensures { Before self.now.rows.items.items symbol identifier result }
     {
         let mut last = None;
-        let mut at = self.head(symbol);
-        while let Some(place) = at {
-            let (row, rest) = self.stand(place);
+        for (place, row) in self.chain(symbol) {
             if row.identifier() >= identifier {
-                return last;
+                break;
             }
             last = Some(place);
-            at = rest;
         }
         last
     }

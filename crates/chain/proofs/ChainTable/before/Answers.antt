@@ -1,39 +1,37 @@
-use Rattle.std.proofs.Common.{◌<◌, vec_items, sym, subst, arith}
-use Rattle.chain.proofs.Trails.{Trail, trail_in, trail_next, trail_stop, trail_end}
-use Rattle.chain.proofs.Walks.{left, chain_falls}
+use Rattle.std.proofs.Common.{vec_items, ap, ◌∙◌, subst, arith}
+use Rattle.chain.specs.Chains.{Stands}
+use Rattle.chain.specs.declared.ChainTable.{ChainTable}
+use Rattle.chain.proofs.Trails.{Trail, trail_next, trail_stop, trail_end}
 use Rattle.chain.proofs.ChainTable.before.Goals as goal
-
-pub stand-rest-requires : goal.stand-rest-requires
-stand-rest-requires c =
-    let t = c.args.self.now in
-    let xs = vec_items t.rows.items in
-    let tr = subst (λ o. Trail xs c.args.symbol c.args.identifier c.loop-at.last o) c.in-Some.is c.loop-at.invariant in
-    omega (arith, trail_in xs c.args.symbol c.args.identifier c.loop-at.last c.in-Some.place tr, t.rows.items.ok.0)
 
 pub returns-then-identifier : goal.returns-then-identifier
 returns-then-identifier c =
     let t = c.args.self.now in
     let xs = vec_items t.rows.items in
-    let tr = subst (λ o. Trail xs c.args.symbol c.args.identifier c.loop-at.last o) c.in-Some.is c.loop-at.invariant in
-    trail_stop xs c.args.symbol c.args.identifier c.loop-at.last c.in-Some.place c.stand-rest.result.0 c.stand-rest.result.1 t.rows.ok.0 tr c.stand-rest.ensures (omega (arith, c.identifier.ensures, c.if-identifier.true))
+    let inv = c.loop-place.invariant in
+    let step = c.in-Some.ensures.steps in
+    let st = subst (λ (u : ChainTable). Stands (vec_items u.rows.items) c.in-Some.place c.in-Some.row c.next.new.self.at) inv.same step.1.1 in
+    let tr = subst (λ o. Trail xs c.args.symbol c.args.identifier c.loop-place.last o) step.1.0 inv.trail in
+    trail_stop xs c.args.symbol c.args.identifier c.loop-place.last c.in-Some.place c.in-Some.row c.next.new.self.at t.rows.ok.0 tr st (omega (arith, c.identifier.ensures, c.if-identifier.true))
 
-pub loop-at-smaller : goal.loop-at-smaller
-loop-at-smaller c =
-    let xs = vec_items c.args.self.now.rows.items in
-    let tr = subst (λ o. Trail xs c.args.symbol c.args.identifier c.loop-at.last o) c.in-Some.is c.loop-at.invariant in
-    subst (λ o. left xs c.stand-rest.result.1 < left xs o) (sym c.in-Some.is)
-    (chain_falls xs c.in-Some.place c.stand-rest.result.0 c.stand-rest.result.1 (trail_in xs c.args.symbol c.args.identifier c.loop-at.last c.in-Some.place tr) c.stand-rest.ensures (omega (arith, c.identifier.ensures, c.identifier.type_inv)))
-
-pub loop-at-preserved : goal.loop-at-preserved
-loop-at-preserved c =
+pub loop-place-preserved : goal.loop-place-preserved
+loop-place-preserved c =
     let t = c.args.self.now in
     let xs = vec_items t.rows.items in
-    let tr = subst (λ o. Trail xs c.args.symbol c.args.identifier c.loop-at.last o) c.in-Some.is c.loop-at.invariant in
-    trail_next xs c.args.symbol c.args.identifier c.loop-at.last c.stand-rest.result.1 c.in-Some.place c.stand-rest.result.0 t.rows.ok.0 tr c.stand-rest.ensures (omega (arith, c.identifier.ensures, c.if-identifier.false))
+    let inv = c.loop-place.invariant in
+    let step = c.in-Some.ensures.steps in
+    let st = subst (λ (u : ChainTable). Stands (vec_items u.rows.items) c.in-Some.place c.in-Some.row c.next.new.self.at) inv.same step.1.1 in
+    let tr = subst (λ o. Trail xs c.args.symbol c.args.identifier c.loop-place.last o) step.1.0 inv.trail in
+    record {
+      can = tt;
+      finite = tt;
+      same = ap (λ r. r.now) step.0 ∙ inv.same;
+      trail = trail_next xs c.args.symbol c.args.identifier c.loop-place.last c.next.new.self.at c.in-Some.place c.in-Some.row t.rows.ok.0 tr st (omega (arith, c.identifier.ensures, c.if-identifier.false));
+    }
 
-pub returns : goal.returns
-returns c =
+pub returns-in-None : goal.returns-in-None
+returns-in-None c =
     let t = c.args.self.now in
     let xs = vec_items t.rows.items in
-    trail_end xs c.args.symbol c.args.identifier c.loop-at.last t.rows.ok.0
-    (subst (λ o. Trail xs c.args.symbol c.args.identifier c.loop-at.last o) c.in_default.is c.loop-at.invariant)
+    trail_end xs c.args.symbol c.args.identifier c.loop-place.last t.rows.ok.0
+    (subst (λ o. Trail xs c.args.symbol c.args.identifier c.loop-place.last o) c.in-None.ensures.steps.1.0 c.loop-place.invariant.trail)

@@ -1,10 +1,11 @@
-use Rattle.std.proofs.Common.{vec_items}
+use Rattle.std.proofs.Common.{◌≡◌, vec_items}
 use Rattle.chain.proofs.Trails.{Trail}
-use Rattle.chain.proofs.Walks.{left}
 use Rattle.chain.proofs.ChainTable.before.Given as goal
 
-abbrev pub invariant-loop-at : goal.invariant-loop-at
-invariant-loop-at l = Trail (vec_items l.self.rows.items) l.symbol l.identifier l.last l.at
-
-abbrev pub decreases-loop-at : goal.decreases-loop-at
-decreases-loop-at l = left (vec_items l.self.rows.items) l.at
+abbrev pub invariant-loop-place : goal.invariant-loop-place
+invariant-loop-place l = record {
+  can : (goal.iterator-loop-place).can_next l.place-iterator;
+  finite : (goal.iterator-loop-place).is_finite l.place-iterator;
+  same : l.place-iterator.table.now ≡ l.self;
+  trail : Trail (vec_items l.self.rows.items) l.symbol l.identifier l.last l.place-iterator.at;
+}
