@@ -1,3 +1,4 @@
 pub mod Leasts
+pub mod Places
 pub mod Positions
 pub mod Puts
