@@ -37,14 +37,14 @@ module _ {C : Type 0} (t : Truth) (H : C → ℤ → Type 0) where
   worth_value m (Value n) k v w = k
   worth_value m (Variable x) k v w = w x
 
-  -- a content that holds exactly what a primitive is true of claims the primitive
-  pub claims_by : (p : Primitive Operand) (a : Operand) (by : Option C) (c : Claim C) (Q : ℤ → Type 0) →
-      ((m : ℕ) → KnownAll m p → Known m a) → ((v : ℕ → ℤ) → Q (worth (whole t) v a) ↔ TrueIn (whole t) v p) →
-      Holding H Q by → ClaimsOf t H a by c → Claims t H p c
-  claims_by p a by c Q known says holding of =
+  -- a content that holds exactly what a primitive is true of, at a signed number, claims the primitive
+  pub claims_by : (p : Primitive Operand) (a : Operand) (by : Option C) (c : Claim C) (Q : ℤ → ℤ → Type 0) (n : ℤ) → SFits w32 n →
+      ((m : ℕ) → KnownAll m p → Known m a) → ((v : ℕ → ℤ) → Q n (worth (whole t) v a) ↔ TrueIn (whole t) v p) →
+      Holding H (Q (to_z w32 (of_z w32 n))) by → ClaimsOf t H a by c → Claims t H p c
+  claims_by p a by c Q n fits known says holding of =
       record {
         exact = λ m k v w.
-            let h = holding (worth (whole t) v a) (worth_value m a (known m k) v w) in
+            let h = at_bits (λ (j : ℤ). Holding H (Q j) by) n fits holding (worth (whole t) v a) (worth_value m a (known m k) v w) in
             (λ x. (says v).0 (h.0 ((of.exact v).0 x)), λ x. (of.exact v).1 (h.1 ((says v).1 x)));
         made = λ m k. of.made m (known m k);
       }
