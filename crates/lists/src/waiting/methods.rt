@@ -69,6 +69,7 @@ impl Waiting {
         self.len() < WAITING && goal.is_storable()
     }
 
+    // Two calls, as a deque has two pushes: a parameter for the end would say no more than their names.
     /// Puts a goal at the bottom, or gives it back where it cannot wait.
     pub(crate) fn post(&mut self, goal: Goal) -> Result<(), Goal>
         ensures value { result ≡ told_room (can_wait self.old (goal_means goal)) goal }
