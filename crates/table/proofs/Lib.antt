@@ -1,4 +1,3 @@
 pub mod Leasts
-pub mod Places
 pub mod Positions
 pub mod Puts
