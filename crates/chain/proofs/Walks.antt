@@ -52,10 +52,6 @@ module _ (xs : List Row) (lawful_xs : lawful xs ≡ true) (s : ℕ) (key : Optio
       let e : look xs x.identifier ≡ record_of x ∷ [] = ap (λ (y : Row). look xs y.identifier) r ∙ look_read xs k x lawful_xs l ∙ ap (λ y. record_of y ∷ []) (sym r) in
       (e, symbol_is s (record_of x) (sym (any_one (Some s) None (record_of x)) ∙ ap (any_answers (Some s) None) (sym e) ∙ ap (λ (y : Row). any_answers (Some s) None (look xs y.identifier)) r ∙ next.1))
 
-  -- a walk begins at the first row of the symbol
-  pub way_start : (o : Option ℕ) → To xs o s 0 → Way xs s key above o
-  way_start o to = (0, to, λ i a b. absurd (omega arith))
-
   pub way_found : (k : ℕ) (x : Row) (o : Option ℕ) (n : ℕ) → Way xs s key above (Some k) → Stands xs k x o → n ≡ x.identifier → above < n → answers None key (record_of x) ≡ true → NextOf (look xs) (Some s) key above (Some n)
   way_found k x o n w st e a h =
       let r = st.at x in

@@ -14,9 +14,6 @@ written_append d k (b ∷ x) y =
     let e : k + 1 + length x ≡ k + suc (length x) = omega arith in
     written_append (set d k b) (k + 1) x y ∙ ap (λ n. written (written (set d k b) (k + 1) x) n y) e
 
-pub wrote_none : (w : Writer) → Wrote [] w w
-wrote_none w = record { same = refl; after = refl; place = sym (add-zero w.pos) }
-
 pub wrote_then : {x y : List ℕ} {w w₁ w₂ : Writer} → Wrote x w w₁ → Wrote y w₁ w₂ → Wrote (x ++ y) w w₂
 wrote_then {x} {y} {w} {w₁} p q = record {
   same = q.same ∙ p.same;

@@ -1,15 +1,7 @@
 -- What one step of a reader does to the bytes ahead of it.
-use Rattle.std.proofs.Common.{◌≡◌, ℕ, suc, ◌+◌, ◌-◌, ◌<◌, ◌≤◌, List, [], ◌∷◌, ◌++◌, length, get_or, drop, sym, refl, ap, ◌∙◌, subst, append_assoc, append-nil, add-one, arith, drop_of_length-le, drop-cons}
-use native.Mathlib.Nat.{sub-zero}
-use Rattle.rules.specs.Parse.{Outcome, Parser, got, refused, after, byte, many}
+use Rattle.std.proofs.Common.{◌≡◌, ℕ, suc, ◌+◌, ◌-◌, ◌<◌, ◌≤◌, List, [], ◌∷◌, ◌++◌, sym, refl, ap, ◌∙◌, subst, append_assoc, append-nil, arith}
+use Rattle.rules.specs.Parse.{Outcome, Parser, got, refused, after, many}
 use Rattle.rules.specs.declared.LoadRefusal.{LoadRefusal}
-use Rattle.rules.specs.declared.LoadRefusal.TheVariants.{Ended}
-
-pub byte_ended : (s : List ℕ) (k : ℕ) → length s ≤ k → byte k (drop k s) ≡ refused (Ended k)
-byte_ended s k h = ap (byte k) (drop_of_length-le s h)
-
-pub byte_there : (s : List ℕ) (k : ℕ) → k < length s → byte k (drop k s) ≡ got (get_or s k 0) (k + 1) (drop (k + 1) s)
-byte_there s k h = ap (byte k) (drop-cons s k 0 h) ∙ ap (λ n. got (get_or s k 0) (k + 1) (drop n s)) (sym (add-one k))
 
 -- of n parts in a row, xs are read, and m are left at the place k with the bytes s; o is the outcome of the whole
 abbrev pub Sofar : {A : Type 0} → Parser A → Outcome (List A) → ℕ → List A → ℕ → List ℕ → Type 0
@@ -19,9 +11,6 @@ module _ {A : Type 0} (p : Parser A) where
   again : (o : Outcome (List A)) → o ≡ after o (λ ys. got ys)
   again (got a k s) = refl
   again (refused e) = refl
-
-  pub sofar_none : (n : ℕ) (k : ℕ) (s : List ℕ) → Sofar p (many n p k s) (n - 0) [] k s
-  sofar_none n k s = subst (λ m. Sofar p (many n p k s) m [] k s) (sym (sub-zero n)) (again (many n p k s))
 
   one : (xs : List A) (a : A) (o : Outcome (List A)) → after (after o (λ ys. got (a ∷ ys))) (λ ys. got (xs ++ ys)) ≡ after o (λ ys. got ((xs ++ a ∷ []) ++ ys))
   one xs a (got ys k s) = ap (λ zs. got zs k s) (sym (append_assoc xs (a ∷ []) ys))
