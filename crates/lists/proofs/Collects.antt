@@ -115,6 +115,23 @@ module _ {d : Domain} (m : Meaning d) where
     abbrev Next : ℕ → Option ℕ → Type 0
     Next last r = NextOf t None None last r
 
+    none_at_zero : Fitted t → Says false 0
+    none_at_zero f = go (t 0) (f 0)
+      where
+        go : (rs : List Record) → All (λ r. fit 0 r ≡ true) rs → UnfixedSays m false (first rs)
+        go [] a = tt
+        go (r ∷ rs) a = absurd (omega (arith, (placed 0 r a.0).low))
+
+    pub collect_none : Fitted t → (items : List ℕ) → items ≡ [] → Collecting 0 0 items
+    collect_none f items e = record {
+      all = [];
+      wakes = record { rising = tt; upto = λ i n. absurd (mem_none n); unfixed = λ i n. absurd (mem_none n); others = λ i l n. subst (Says false) (let q : 0 ≡ i = omega arith in q) (none_at_zero f) };
+      count = refl;
+      kept = e;
+      few = omega arith;
+      bound = omega arith;
+    }
+
     before : (last x : ℕ) (is : List ℕ) → WakesTo last is → Next last (Some x) → (i : ℕ) → i < x → (i ∈ is → ⊥) → Says false i
     before last x is w n i l k = go (cases_lt last i)
       where

@@ -1,2 +1,3 @@
 pub mod Visiting
 pub mod Changing
+pub mod Stepping

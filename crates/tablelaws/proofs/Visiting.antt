@@ -1,9 +1,10 @@
 -- A walk by `next` through the records that answer.
-use Rattle.std.proofs.Common.{◌≡◌, ℕ, ◌+◌, ◌<◌, ◌≤◌, true, List, [], ◌∷◌, ◌++◌, length, get_or, ℤ, Some, None, Option, sym, refl, ap, ◌∙◌, inl, inr, arith}
+use Rattle.std.proofs.Common.{◌≡◌, ℕ, ◌+◌, ◌<◌, ◌≤◌, true, false, List, [], ◌∷◌, ◌++◌, length, get_or, ℤ, Some, None, Option, sym, refl, ap, ◌∙◌, inl, inr, arith}
 use Rattle.std.proofs.lemmas.List.{length_push, get_or_append_left, get_or_push}
 use Rattle.std.proofs.lemmas.Bool.{cases_eq, cases_lt, both_ways}
 use Rattle.terms.specs.Lists.{All}
-use Rattle.table.specs.Records.{fit}
+use Rattle.table.specs.Looks.{high_fit}
+use Rattle.table.specs.Records.{Record, fit}
 use Rattle.table.specs.Tables.{Table}
 use Rattle.table.specs.Nexts.{any_answers, NextOf}
 use Rattle.table.specs.NextsLemmas.{zero_none}
@@ -62,3 +63,8 @@ seen_all t s q high xs seen next = record {
     | inl b ↦ absurd (both_ways _ (next i b) a)
   ];
 }
+
+-- an identifier that answers is 1,000,000 at most
+pub high_answer : (i : ℕ) (s : Option ℕ) (k : Option ℤ) (rs : List Record) → All (λ r. fit i r ≡ true) rs → any_answers s k rs ≡ true → i ≤ 1_000_000
+high_answer i s k [] f e = absurd (both_ways false refl e)
+high_answer i s k (r ∷ rs) f e = high_fit i r f.0

@@ -6,6 +6,7 @@ use crate::lists::{Lists, WAITING};
 use crate::reserved::Reserved;
 use table::partner::PartnerTable;
 use table::row::PLACES;
+use tablelaws::visits::Identifiers;
 use terms::Operand;
 use theory::interface::Theory;
 
@@ -36,13 +37,11 @@ fn collect<T: Theory, P: PartnerTable>(
 {
     woken.clear();
     let mut count = 0;
-    let mut last = 0;
-    while let Some(identifier) = table.next(None, None, last) {
+    for identifier in Identifiers::of(table, None, None) {
         if is_unfixed(theory, table, identifier) {
             woken.push(identifier);
             count += 1;
         }
-        last = identifier;
     }
     count
 }

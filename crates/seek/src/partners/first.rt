@@ -16,6 +16,7 @@ use crate::partners::{Attempt, Search};
 use crate::slots::Slots;
 use machine::tuple::Tuple;
 use table::partner::PartnerTable;
+use tablelaws::visits::Identifiers;
 use theory::interface::Theory;
 
 /// Whether the tuple names the identifier.
@@ -76,15 +77,13 @@ impl<'a, T: Theory, P: PartnerTable> Search<'a, T, P> {
         }
         let symbol = heads[place];
         let key = self.key(attempt, tuple);
-        let mut last = 0;
-        while let Some(identifier) = self.table.next(Some(symbol), key, last) {
+        for identifier in Identifiers::of(self.table, Some(symbol), key) {
             if may_fill(self.table, active, symbol, tuple, identifier) {
                 let found = self.first_from(attempt, tuple.with(identifier));
                 if found.is_some() {
                     return found;
                 }
             }
-            last = identifier;
         }
         None
     }

@@ -1,19 +1,40 @@
-use Rattle.std.proofs.Common.{vec_items, sym, subst}
+use Rattle.std.proofs.Common.{vec_items, sym, subst, ◌∙◌, ap}
 use Rattle.tablelaws.proofs.Visiting.{Seen, seen_none, seen_more, seen_all}
+use Rattle.tablelaws.proofs.Stepping.{next_step}
 use Rattle.tablelaws.proofs.visits.visit.Goals as goal
 
 pub loop-identifier-init : goal.loop-identifier-init
 loop-identifier-init g c =
     let t = g.P.PartnerTable.records c.args.table.now in
-    subst (λ xs. Seen t c.args.symbol c.args.key 0 xs) (sym c.new-found.ensures.items)
-    (seen_none t c.args.symbol c.args.key (λ i. g.met.P.PartnerTable.fits c.args.table.now i))
+    let e = c.into_iter-identifier-iterator.ensures.into_iter_gives in
+    record {
+      can = tt;
+      finite = tt;
+      table = ap (λ v. v.table.now) e ∙ c.of-identifier-items.ensures.table;
+      symbol = ap (λ v. v.symbol) e ∙ c.of-identifier-items.ensures.symbol;
+      key = ap (λ v. v.key) e ∙ c.of-identifier-items.ensures.key;
+      seen = subst (λ n. Seen t c.args.symbol c.args.key n (vec_items c.new-found.result)) (sym (ap (λ v. v.above) e ∙ c.of-identifier-items.ensures.above))
+          (subst (λ xs. Seen t c.args.symbol c.args.key 0 xs) (sym c.new-found.ensures.items)
+          (seen_none t c.args.symbol c.args.key (λ i. g.met.P.PartnerTable.fits c.args.table.now i)));
+    }
 
 pub loop-identifier-preserved : goal.loop-identifier-preserved
 loop-identifier-preserved g c =
     let t = g.P.PartnerTable.records c.args.table.now in
-    subst (λ xs. Seen t c.args.symbol c.args.key c.in-Some.identifier xs) (sym c.in_ok-push.ensures.items)
-    (seen_more t c.args.symbol c.args.key c.loop-identifier.above c.in-Some.identifier (vec_items c.loop-identifier.found) c.loop-identifier.invariant c.in-Some.ensures)
+    let i = c.loop-identifier.invariant in
+    let s = c.in-Some.ensures.steps in
+    record {
+      can = tt;
+      finite = tt;
+      table = s.table ∙ i.table;
+      symbol = s.symbol ∙ i.symbol;
+      key = s.key ∙ i.key;
+      seen = subst (λ n. Seen t c.args.symbol c.args.key n (vec_items c.push.new.self)) (sym s.above)
+          (subst (λ xs. Seen t c.args.symbol c.args.key c.in-Some.identifier xs) (sym c.in_ok-push.ensures.items)
+          (seen_more t c.args.symbol c.args.key c.loop-identifier.identifier-iterator.above c.in-Some.identifier (vec_items c.loop-identifier.found) i.seen (next_step g.P.PartnerTable s i.table i.symbol i.key)));
+    }
 
 pub returns : goal.returns
 returns g c =
-    seen_all (g.P.PartnerTable.records c.args.table.now) c.args.symbol c.args.key c.loop-identifier.above (vec_items c.loop-identifier.found) c.loop-identifier.invariant c.in_default.ensures
+    let i = c.loop-identifier.invariant in
+    seen_all (g.P.PartnerTable.records c.args.table.now) c.args.symbol c.args.key c.loop-identifier.identifier-iterator.above (vec_items c.loop-identifier.found) i.seen (next_step g.P.PartnerTable c.in-None.ensures.steps i.table i.symbol i.key)
