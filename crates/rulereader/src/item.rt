@@ -10,6 +10,8 @@ use crate::reader::{Production, Reader};
 use rules::{Item, ItemKind, LoadRefusal, Signature};
 use terms::{Primitive, Term};
 
+// Each part has a type of its own: the parser that its contract names is a ghost member, which a closure cannot carry.
+
 /// The argument count of a symbol.
 #[derive(Drop)]
 pub struct ArityPart;

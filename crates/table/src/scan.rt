@@ -29,6 +29,7 @@ impl ScanTable {
     }
 }
 
+// Other tables over rows answer by the same lines: one impl for all of them would clash with that of a front.
 impl PartnerTable for ScanTable {
     ghost records = { λ t. look t.rows.items.items };
 

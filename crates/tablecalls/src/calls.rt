@@ -57,6 +57,8 @@ fn parse_put(heap: Global, words: &mut SplitWhitespace<'_>) -> anyhow::Result<Ca
     Ok(Call::Put(identifier, symbol, arguments))
 }
 
+/// A number, or `x` with a variable's number.
+// The program of theories reads another letter and has another error; a call for both would be longer than this.
 fn parse_operand(text: &str) -> anyhow::Result<Operand> {
     match text.strip_prefix("x") {
         Some(number) => Ok(Operand::Variable(number.parse()?)),

@@ -6,6 +6,7 @@ ghost use Rattle.theory.specs.Texts.{told_text};
 use std::fmt;
 
 /// Something is left, nothing is left, or what was told is not known.
+// Three answers and no `Result`: two of them change the theory, and only the last is a refusal.
 #[derive(Clone, Copy, Debug, PartialEq, Eq)]
 pub enum Told {
     Kept,
