@@ -1,5 +1,5 @@
 -- A put into a front, by where it goes.
-use Rattle.std.proofs.Common.{◌≡◌, ℕ, ◌+◌, ◌<◌, ◌≤◌, min, Bool, true, false, not, ◌&&◌, ltb, ◌⊎◌, List, [], ◌∷◌, ◌++◌, length, take, is_some, Some, None, Option, Ok, Err, Result, sym, refl, ap, ◌∙◌, subst, inl, inr, arith, length-take}
+use Rattle.std.proofs.Common.{◌≡◌, ℕ, zero, suc, ◌+◌, ◌<◌, ◌≤◌, min, Bool, true, false, not, ◌&&◌, ltb, ◌⊎◌, List, [], ◌∷◌, ◌++◌, length, take, is_some, Some, None, Option, Ok, Err, Result, sym, refl, ap, ◌∙◌, subst, inl, inr, arith, length-take}
 use Rattle.std.proofs.lemmas.Bool.{cases_lt, lt-ltb, le-ltb}
 use Rattle.std.proofs.lemmas.List.{take_all, length_push}
 use Rattle.std.proofs.lemmas.List.Edits.{length-remove}
@@ -126,3 +126,8 @@ taken_own limit xs ys n o few p = taken_some xs ys n o p ∙ ap (λ t. not (is_n
 pub placed_few : (limit : ℕ) (xs ys : List Row) (l n : ℕ) (r : Record) (a : Result (Unit {0}) PutRefusal) → length xs ≤ own_limit limit → (is_none (look xs n) ≡ false) ⊎ (length xs < own_limit limit) → a ≡ put_answer (look xs) l n r → Placed xs ys n r a → length ys ≤ own_limit limit
 placed_few limit xs ys l n r a few (inl e) h p = omega (arith, ap length (placed_kept xs ys (look xs) l n r r a e h p))
 placed_few limit xs ys l n r a few (inr free) h p = omega (arith, placed_length xs ys n r a p)
+
+-- the first of none are none
+pub take_none : {A : Type 0} (k : ℕ) → take {A = A} k [] ≡ []
+take_none zero = refl
+take_none (suc k) = refl

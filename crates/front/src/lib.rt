@@ -50,7 +50,7 @@ impl<P: PartnerTable> FrontTable<P> {
     pub fn own_capacity(&self) -> usize
         ensures { result ≡ own_limit P.PartnerTable.limit }
     {
-        OWN.min(MOST - self.behind.capacity())
+        self.own.limit().min(MOST - self.behind.capacity())
     }
 
     /// How many of its own rows are in use.

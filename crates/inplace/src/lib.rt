@@ -5,7 +5,8 @@ ghost use Rattle.std.specs.Prelude.{◌≤◌};
 
 mod methods;
 
-/// At most `N` items in a row. It is `Copy`, as a vector of fixed capacity elsewhere is not.
+/// At most `N` items in a row.
+// `ArrayVec` of the library is not `Copy`, and lists of these are copied out of vectors that stay.
 #[derive(Debug)]
 pub struct InPlace<T, const N: usize> {
     places: [T; N],

@@ -1,12 +1,12 @@
 -- Tuples that fit a rule, head by head. Assumes nothing.
-use Rattle.std.proofs.Common.{◌≡◌, ℕ, zero, suc, ◌<◌, ◌≤◌, true, false, eqb, ◌⊎◌, List, [], ◌∷◌, ◌++◌, length, get_or, take, ℤ, Some, Option, sym, refl, ap, subst, inl, inr, not-suc-le-zero, arith}
+use Rattle.std.proofs.Common.{◌≡◌, ℕ, zero, suc, ◌<◌, ◌≤◌, true, eqb, ◌⊎◌, List, [], ◌∷◌, ◌++◌, length, get_or, take, ℤ, Some, Option, sym, refl, ap, subst, inl, inr, not-suc-le-zero, arith}
 use Rattle.std.proofs.lemmas.List.{append_assoc, length-append, take_all}
-use Rattle.std.proofs.lemmas.Bool.{eq-eqb, ne_eqb, and_from, or_left, both_ways}
+use Rattle.std.proofs.lemmas.Bool.{eq-eqb, ne_eqb, and_from, or_left}
 use Rattle.terms.specs.Lists.{All}
 use Rattle.table.specs.Lists.{first, is_none}
 use Rattle.table.specs.Nexts.{has_key, answers, any_answers}
 use Rattle.table.specs.Records.{Record, symbol_of, fit}
-use Rattle.table.specs.Looks.{low_fit, high_fit}
+use Rattle.table.specs.Looks.{low_fit}
 use Rattle.machine.specs.Lists.{◌∈◌, there, Distinct, NoLater}
 use Rattle.machine.specs.Matching.{Store, Matches, arguments_of}
 use Rattle.machine.proofs.Members.{mem_cases, mem_none, mem_right, mem_append, get_or_mem, here_at}
@@ -21,10 +21,6 @@ first_answers (r ∷ rs) c key e k = or_left (answers (Some c) key r) (any_answe
 pub low_first : (i : ℕ) (xs : List Record) (c : ℕ) → All (λ r. fit i r ≡ true) xs → symbol_of (first xs) ≡ Some c → 1 ≤ i
 low_first i [] c a e = absurd (none_some e)
 low_first i (r ∷ rs) c a e = low_fit i r a.0
-
-pub high_answer : (i : ℕ) (xs : List Record) (s : Option ℕ) (key : Option ℤ) → All (λ r. fit i r ≡ true) xs → any_answers s key xs ≡ true → i ≤ 1000000
-high_answer i [] s key a e = absurd (both_ways false refl e)
-high_answer i (r ∷ rs) s key a e = high_fit i r a.0
 
 -- what stands at the next head
 pub matches_next : (store : Store) (hs pre : List ℕ) (y : ℕ) (ys : List ℕ) → Matches store hs (pre ++ (y ∷ ys)) → symbol_of (store y) ≡ Some (get_or hs (length pre) 0)

@@ -1,3 +1,4 @@
 pub mod Leasts
 pub mod Positions
 pub mod Puts
+pub mod Scans

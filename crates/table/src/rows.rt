@@ -38,6 +38,13 @@ impl<const LIMIT: usize> Rows<LIMIT> {
         self.items.as_slice()
     }
 
+    /// The most rows that it holds.
+    pub fn limit(&self) -> usize
+        ensures { result ≡ LIMIT }
+    {
+        LIMIT
+    }
+
     pub fn count(&self) -> usize
         ensures { result ≡ size (look self.now.items.items) }
     {

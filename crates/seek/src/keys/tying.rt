@@ -18,7 +18,8 @@ fn filler(tuple: Tuple, head: usize, active: u32, place: usize) -> Option<u32>
     identifier_at(tuple, place).or(own)
 }
 
-/// The value that an operand is; a variable gives none. A `TryFrom` would need an error that no caller reads.
+/// The value that an operand is; a variable gives none.
+// No `TryFrom`, which would need an error that no caller reads.
 fn value(operand: Option<Operand>) -> Option<i32>
     ensures { result ≡ value_of operand }
 {

@@ -31,10 +31,9 @@ fn guarded<T: Theory, P: PartnerTable>(
 fn was_applied(history: &[Firing], number: usize, tuple: Tuple) -> bool
     ensures { Answers result ((number, ids tuple) ∈ map firing_of history.now) }
 {
-    history.contains(&Firing {
-        rule: number,
-        tuple,
-    })
+    history
+        .iter()
+        .any(|firing| firing.rule == number && firing.tuple == tuple)
 }
 
 impl<'a, T: Theory, P: PartnerTable> Search<'a, T, P> {
