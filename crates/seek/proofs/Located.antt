@@ -91,11 +91,11 @@ module _ (arities : List ℕ) (store : Store) where
       go true ih = refl
       go false ih = partly_later f (located arities cs (k - get_or arities c 0)) ∙ ih
 
-  pub partial_read : (hs : List ℕ) (f : Filling) (k : ℕ) (counts : List ℕ) → counts ≡ arities → (o : Option (ℕ × ℕ)) → o ≡ located counts hs k → (p : ℕ × ℕ) → o ≡ Some p → (i : Option ℕ) → i ≡ f p.0 → (x : Option Operand) → x ≡ filled_argument store i p.1 → x ≡ partial_slot arities store hs f k
-  partial_read hs f k counts c o e p q i n x m = m ∙ ap (λ z. filled_argument store z p.1) n ∙ ap (there_partly f) (sym q ∙ e ∙ ap (λ z. located z hs k) c) ∙ partial_there hs f k
+  pub partial_read : (hs : List ℕ) (f : Filling) (k : ℕ) (o : Option (ℕ × ℕ)) → o ≡ located arities hs k → (p : ℕ × ℕ) → o ≡ Some p → (i : Option ℕ) → i ≡ f p.0 → (x : Option Operand) → x ≡ filled_argument store i p.1 → x ≡ partial_slot arities store hs f k
+  partial_read hs f k o e p q i n x m = m ∙ ap (λ z. filled_argument store z p.1) n ∙ ap (there_partly f) (sym q ∙ e) ∙ partial_there hs f k
 
-  pub partial_unread : (hs : List ℕ) (f : Filling) (k : ℕ) (counts : List ℕ) → counts ≡ arities → (o : Option (ℕ × ℕ)) → o ≡ located counts hs k → o ≡ None → None ≡ partial_slot arities store hs f k
-  partial_unread hs f k counts c o e q = ap (there_partly f) (sym q ∙ e ∙ ap (λ z. located z hs k) c) ∙ partial_there hs f k
+  pub partial_unread : (hs : List ℕ) (f : Filling) (k : ℕ) (o : Option (ℕ × ℕ)) → o ≡ located arities hs k → o ≡ None → None ≡ partial_slot arities store hs f k
+  partial_unread hs f k o e q = ap (there_partly f) (sym q ∙ e) ∙ partial_there hs f k
 
   -- a slot that no constraint fills has 0
   pub slot_or : (hs is : List ℕ) (k : ℕ) → unwrap_or (partial_slot arities store hs (λ p. nth is p) k) (Value (pos 0)) ≡ head_slot arities store hs is k

@@ -5,18 +5,9 @@ ghost use Rattle.machine.specs.Tuples.{ids};
 ghost use Rattle.seek.specs.Fillings.{filler_at, value_beside, known_in, key_in};
 
 use crate::keys::Partial;
-use crate::slots::filling::{argument_of, identifier_at, locate};
-use machine::tuple::Tuple;
+use crate::slots::filling::{argument_of, identifier_at};
 use table::partner::PartnerTable;
 use terms::{Operand, Primitive, Term};
-
-/// The constraint at a head: the tuple's, or the active one at its own head.
-fn filler(tuple: Tuple, head: usize, active: u32, place: usize) -> Option<u32>
-    ensures { result ≡ filler_at (ids tuple) head active place }
-{
-    let own = (place == head).then_some(active);
-    identifier_at(tuple, place).or(own)
-}
 
 /// The value that an operand is; a variable gives none.
 // No `TryFrom`, which would need an error that no caller reads.
@@ -36,15 +27,23 @@ fn is_slot(slot: u8, term: Term) -> bool
     term == Term::Slot(slot)
 }
 
+impl<P> Partial<'_, P> {
+    /// The constraint at a head: the tuple's, or the active one at its own head.
+    fn filler(&self, place: usize) -> Option<u32>
+        ensures { result ≡ filler_at (ids self.now.slots.tuple) self.now.head self.now.active place }
+    {
+        let own = (place == self.head).then_some(self.active);
+        identifier_at(self.slots.tuple, place).or(own)
+    }
+}
+
 impl<P: PartnerTable> Partial<'_, P> {
     /// What stands in a slot, if its head is filled.
     fn known(&self, slot: u8) -> Option<Operand>
         ensures { result ≡ known_in P.PartnerTable self.now slot }
     {
-        let slots = &self.slots;
-        let (place, argument) = locate(slots.rules.signature(), slots.heads, slot)?;
-        let constraint = filler(slots.tuple, self.head, self.active, place);
-        argument_of(slots.table, constraint, argument)
+        let (place, argument) = self.slots.locate(slot)?;
+        argument_of(self.slots.table, self.filler(place), argument)
     }
 
     /// The value of a term, if it is known.

@@ -1,6 +1,7 @@
 // Terms and primitives, filled with what stands in the slots.
 ghost use Rattle.std.specs.Prelude.{◌≡◌, ℕ};
 ghost use Rattle.terms.specs.declared.Operand.{Operand};
+ghost use Rattle.rulefile.specs.Rulebooks.{rules_book};
 ghost use Rattle.table.specs.Lists.{nth};
 ghost use Rattle.machine.specs.Matching.{fill, fill_primitive};
 ghost use Rattle.machine.specs.Keys.{filled_argument};
@@ -9,7 +10,6 @@ ghost use Rattle.seek.specs.Slots.{located, store_in, slot_in, argument_in};
 
 use crate::slots::Slots;
 use machine::tuple::Tuple;
-use rules::Signature;
 use table::partner::PartnerTable;
 use terms::{Operand, Primitive, Term};
 
@@ -44,21 +44,6 @@ pub trait Filling {
     }
 }
 
-/// The head that a slot belongs to, and the argument of that head that it is.
-pub(crate) fn locate(signature: Signature<'_>, heads: &[u8], slot: u8) -> Option<(usize, usize)>
-    ensures { result ≡ located signature.entry.arities.now heads.now slot }
-{
-    let mut left = slot;
-    for (place, symbol) in heads.iter().enumerate() {
-        let arity = signature.arity(*symbol);
-        if left < arity {
-            return Some((place, left as usize));
-        }
-        left -= arity;
-    }
-    None
-}
-
 /// The identifier at a place of the tuple, if there is one.
 pub(crate) fn identifier_at(tuple: Tuple, place: usize) -> Option<u32>
     ensures { result ≡ nth (ids tuple) place }
@@ -77,12 +62,30 @@ pub(crate) fn argument_of<P: PartnerTable>(
     table.argument(constraint?, argument)
 }
 
+impl<P> Slots<'_, P> {
+    /// The head that a slot belongs to, and the argument of that head that it is.
+    pub(crate) fn locate(&self, slot: u8) -> Option<(usize, usize)>
+        ensures { result ≡ located (rules_book self.now.rules.now).arities self.now.heads.now slot }
+    {
+        let signature = self.rules.signature();
+        let mut left = slot;
+        for (place, symbol) in self.heads.iter().enumerate() {
+            let arity = signature.arity(*symbol);
+            if left < arity {
+                return Some((place, left as usize));
+            }
+            left -= arity;
+        }
+        None
+    }
+}
+
 impl<P: PartnerTable> Slots<'_, P> {
     /// The argument of the constraint at the head that a slot belongs to, if there is one.
     fn argument(&self, slot: u8) -> Option<Operand>
         ensures { result ≡ argument_in P.PartnerTable self.now slot }
     {
-        let (place, argument) = locate(self.rules.signature(), self.heads, slot)?;
+        let (place, argument) = self.locate(slot)?;
         argument_of(self.table, identifier_at(self.tuple, place), argument)
     }
 }

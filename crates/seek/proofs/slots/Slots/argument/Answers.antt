@@ -7,7 +7,7 @@ use Rattle.seek.proofs.Located.{partial_read, partial_unread}
 use Rattle.seek.proofs.slots.Slots.argument.Goals as goal
 
 pub returns-in_err-place : goal.returns-in_err-place
-returns-in_err-place g c = c.from_residual.ensures ∙ partial_unread (rules_book c.args.self.now.rules.now).arities (store_in g.P.PartnerTable c.args.self.now.table.now) c.args.self.now.heads.now (λ p. nth (ids c.args.self.now.tuple) p) c.args.slot c.signature.result.arities.now c.signature.ensures.value c.locate.result c.locate.ensures c.in_err-place.was
+returns-in_err-place g c = c.from_residual.ensures ∙ partial_unread (rules_book c.args.self.now.rules.now).arities (store_in g.P.PartnerTable c.args.self.now.table.now) c.args.self.now.heads.now (λ p. nth (ids c.args.self.now.tuple) p) c.args.slot c.locate.result c.locate.ensures c.in_err-place.was
 
 pub returns : goal.returns
-returns g c = partial_read (rules_book c.args.self.now.rules.now).arities (store_in g.P.PartnerTable c.args.self.now.table.now) c.args.self.now.heads.now (λ p. nth (ids c.args.self.now.tuple) p) c.args.slot c.signature.result.arities.now c.signature.ensures.value c.locate.result c.locate.ensures (c.in_ok-place.place, c.in_ok-place.argument) c.in_ok-place.was c.identifier_at.result c.identifier_at.ensures c.argument_of.result c.argument_of.ensures
+returns g c = partial_read (rules_book c.args.self.now.rules.now).arities (store_in g.P.PartnerTable c.args.self.now.table.now) c.args.self.now.heads.now (λ p. nth (ids c.args.self.now.tuple) p) c.args.slot c.locate.result c.locate.ensures (c.in_ok-place.place, c.in_ok-place.argument) c.in_ok-place.was c.identifier_at.result c.identifier_at.ensures c.argument_of.result c.argument_of.ensures
