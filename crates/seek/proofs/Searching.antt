@@ -1,5 +1,5 @@
 -- The search for partners: what each turn of it shows. Assumes nothing.
-use Rattle.std.proofs.Common.{◌≡◌, ℕ, zero, suc, ◌+◌, ◌<◌, ◌≤◌, Bool, true, false, cond, eqb, ◌⊎◌, List, [], ◌∷◌, ◌++◌, length, get_or, ℤ, is_some, Some, None, Option, sym, refl, ap, ◌∙◌, subst, inl, inr, zero-le, not-suc-le-zero, arith}
+use Rattle.std.proofs.Common.{◌≡◌, ℕ, zero, suc, ◌+◌, ◌-◌, ◌<◌, ◌≤◌, Bool, true, false, cond, eqb, ◌⊎◌, List, [], ◌∷◌, ◌++◌, length, get_or, take, ℤ, is_some, Some, None, Option, sym, refl, ap, ◌∙◌, subst, inl, inr, zero-le, not-suc-le-zero, arith}
 use Rattle.std.specs.Bool.{then_some}
 use Rattle.std.specs.Option.{option_map, option_or}
 use Rattle.std.proofs.lemmas.List.{append-nil, length-append, get_or_at, get_or_append_left, take_all}
@@ -58,6 +58,21 @@ not_none a b = omega arith
 between : {x y : ℕ} → y ≤ x → x ≤ y → y ≡ x
 between a b = omega arith
 
+-- the heads and the tuple as the code reads them: where a head is left, its symbol, and the tuple with one more
+module _ {hs HS ps pre : List ℕ} (same : hs ≡ HS) (place : ps ≡ pre) where
+  pub room_for : length ps < length hs → length pre < length HS
+  room_for l = omega (arith, ap length same, ap length place)
+
+  pub head_symbol : get_or hs (length ps) 0 ≡ get_or HS (length pre) 0
+  head_symbol = ap (λ z. get_or z (length ps) 0) same ∙ ap (λ z. get_or HS (length z) 0) place
+
+module _ (pre : List ℕ) (x : ℕ) {n : ℕ} (l : length pre < n) (few : n ≤ 3) {t : List ℕ} (e : t ≡ take 3 (pre ++ (x ∷ []))) where
+  pub with_one : t ≡ pre ++ (x ∷ [])
+  with_one = e ∙ take_all 3 (pre ++ (x ∷ [])) (omega (arith, length-append pre (x ∷ [])))
+
+  pub fewer_left : 3 - length t < 3 - length pre
+  fewer_left = omega (arith, ap length with_one, length-append pre (x ∷ []))
+
 -- the fillers agree with a tuple that begins with those identifiers and has the active one at its head
 nth_in : (pre ys : List ℕ) (p j : ℕ) → nth pre p ≡ Some j → get_or (pre ++ ys) p 0 ≡ j
 nth_in [] ys p j e = absurd (none_some e)
@@ -81,159 +96,149 @@ ready_from T P s k r tuple n hs e gs q b a = go b (subst (λ z. Answers b (All (
     go false x = λ d. x d.guarded
 
 module _ {A B : Type 0} (T : Theory.Ghosts A) (P : PartnerTable.Ghosts B) (s : Config A B) (k h i : ℕ) where
-  abbrev F : List ℕ → Type 0
-  F = Fits T P s k h i
-
-  abbrev HS : List ℕ
-  HS = heads (rule_of s k)
-
-  abbrev Finds : List ℕ → Option (List ℕ) → Type 0
-  Finds = FirstFrom T P s k h i
-
-  long : (xs : List ℕ) → F xs → length xs ≡ length HS
-  long xs f = matches_length (living P s) HS xs f.applies.matches
-
-  -- where one more is to be filled
-  next_there : (pre ys : List ℕ) → length pre < length HS → F (pre ++ ys) → (y : ℕ) × (zs : List ℕ) × (ys ≡ y ∷ zs)
-  next_there pre [] l f = absurd (short l (long (pre ++ []) f) (length-append pre []))
-  next_there pre (y ∷ zs) l f = (y, zs, refl)
-
-  next_symbol : (pre : List ℕ) (y : ℕ) (ys : List ℕ) → F (pre ++ (y ∷ ys)) → symbol_of (living P s y) ≡ Some (get_or HS (length pre) 0)
-  next_symbol pre y ys f = matches_next (living P s) HS pre y ys f.applies.matches
-
-  next_new : (pre : List ℕ) (y : ℕ) (ys : List ℕ) → F (pre ++ (y ∷ ys)) → y ∈ pre → ⊥
-  next_new pre y ys f = distinct_next pre y ys f.applies.distinct
-
   -- nothing up to a place leads to a fitting tuple
   abbrev pub Passed : List ℕ → ℕ → Type 0
-  Passed pre last = (y : ℕ) (ys : List ℕ) → y ≤ last → F (pre ++ (y ∷ ys)) → ⊥
+  Passed pre last = (y : ℕ) (ys : List ℕ) → y ≤ last → Fits T P s k h i (pre ++ (y ∷ ys)) → ⊥
 
   -- nor anything below one
   abbrev pub NoneBelow : List ℕ → ℕ → Type 0
-  NoneBelow pre x = (y : ℕ) (ys : List ℕ) → y < x → F (pre ++ (y ∷ ys)) → ⊥
+  NoneBelow pre x = (y : ℕ) (ys : List ℕ) → y < x → Fits T P s k h i (pre ++ (y ∷ ys)) → ⊥
 
-  abbrev pub Keyed : List ℕ → Option ℤ → Type 0
-  Keyed = KeyFits T P s k h i
+module _ {A B : Type 0} {T : Theory.Ghosts A} {P : PartnerTable.Ghosts B} {s : Config A B} {k h i : ℕ} where
+  long : (xs : List ℕ) → Fits T P s k h i xs → length xs ≡ length (heads (rule_of s k))
+  long xs f = matches_length (living P s) (heads (rule_of s k)) xs f.applies.matches
 
-  -- from the empty tuple on
-  pub begun_none : (r : Rule) → AtHead T P s k h i → r ≡ rule_of s k → Begun T P s k h i r []
-  begun_none r a e = record { place = a; rule = e; few = zero-le; matches = tt; distinct = tt; at = λ l. absurd (not-suc-le-zero l) }
+  -- where one more is to be filled
+  next_there : (pre ys : List ℕ) → length pre < length (heads (rule_of s k)) → Fits T P s k h i (pre ++ ys) → (y : ℕ) × (zs : List ℕ) × (ys ≡ y ∷ zs)
+  next_there pre [] l f = absurd (short l (long (pre ++ []) f) (length-append pre []))
+  next_there pre (y ∷ zs) l f = (y, zs, refl)
 
-  pub searched : {D : Type 0} (f : D → List ℕ) (o : Option D) → Finds [] (option_map f o) → Searched T P s k h i (option_map f o)
-  searched f None n = n
-  searched f (Some x) w = record { fits = w.fits; before = λ other g. in_order (f x) other h (w.fits.at ∙ sym g.at) (length HS) (long (f x) w.fits) (long other g) (w.least other g) }
+  next_symbol : (pre : List ℕ) (y : ℕ) (ys : List ℕ) → Fits T P s k h i (pre ++ (y ∷ ys)) → symbol_of (living P s y) ≡ Some (get_or (heads (rule_of s k)) (length pre) 0)
+  next_symbol pre y ys f = matches_next (living P s) (heads (rule_of s k)) pre y ys f.applies.matches
 
-  module _ (r : Rule) (pre : List ℕ) (b : Begun T P s k h i r pre) where
-    same_heads : heads r ≡ HS
+  next_new : (pre : List ℕ) (y : ℕ) (ys : List ℕ) → Fits T P s k h i (pre ++ (y ∷ ys)) → y ∈ pre → ⊥
+  next_new pre y ys f = distinct_next pre y ys f.applies.distinct
+
+  module _ {r : Rule} {pre : List ℕ} (b : Begun T P s k h i r pre) where
+    same_heads : heads r ≡ (heads (rule_of s k))
     same_heads = ap heads b.rule
 
-    count : length (heads r) ≡ length HS
+    count : length (heads r) ≡ length (heads (rule_of s k))
     count = ap length same_heads
 
     -- where all heads are filled
-    filled_none : length (heads r) ≤ length pre → (Ready T P s k r pre → ⊥) → Finds pre None
-    filled_none l n [] f = n (subst (λ z. Ready T P s k z pre) (sym b.rule) (let g = subst F (append-nil pre) f in record { new = g.new; guarded = g.applies.guarded }))
+    filled_none : length (heads r) ≤ length pre → (Ready T P s k r pre → ⊥) → FirstFrom T P s k h i pre None
+    filled_none l n [] f = n (subst (λ z. Ready T P s k z pre) (sym b.rule) (let g = subst (Fits T P s k h i) (append-nil pre) f in record { new = g.new; guarded = g.applies.guarded }))
     filled_none l n (y ∷ ys) f = over (length ys) l (long (pre ++ (y ∷ ys)) f) (length-append pre (y ∷ ys)) count
 
-    filled_some : length (heads r) ≤ length pre → Ready T P s k r pre → Finds pre (Some pre)
+    filled_some : length (heads r) ≤ length pre → Ready T P s k r pre → FirstFrom T P s k h i pre (Some pre)
     filled_some l d = record { rest = []; begins = sym (append-nil pre); fits = fits (subst (λ z. Ready T P s k z pre) b.rule d); least = λ ys g. no_later_front pre ys }
       where
-        fits : Ready T P s k (rule_of s k) pre → F pre
-        fits q = record { applies = record { matches = subst (λ z. Matches (living P s) z pre) (take_all (length pre) HS (all_within l count)) b.matches; distinct = b.distinct; guarded = q.guarded }; at = b.at (within_all l count b.place.within); new = q.new }
+        fits : Ready T P s k (rule_of s k) pre → Fits T P s k h i pre
+        fits q = record { applies = record { matches = subst (λ z. Matches (living P s) z pre) (take_all (length pre) (heads (rule_of s k)) (all_within l count)) b.matches; distinct = b.distinct; guarded = q.guarded }; at = b.at (within_all l count b.place.within); new = q.new }
 
     -- a tuple that fills all heads is found if the rule is ready for it
-    pub filled : length (heads r) ≤ length pre → {X : Type 0} (f : X → List ℕ) (x : X) → f x ≡ pre → (b : Bool) → Answers b (Ready T P s k r pre) → Finds pre (option_map f (then_some b x))
-    filled l f x e true d = subst (λ z. Finds pre (Some z)) (sym e) (filled_some l d)
+    pub filled : length (heads r) ≤ length pre → {X : Type 0} (f : X → List ℕ) (x : X) → f x ≡ pre → (b : Bool) → Answers b (Ready T P s k r pre) → FirstFrom T P s k h i pre (option_map f (then_some b x))
+    filled l f x e true d = subst (λ z. FirstFrom T P s k h i pre (Some z)) (sym e) (filled_some l d)
     filled l f x e false n = filled_none l n
 
     -- one head more
-    more : (y : ℕ) → length pre < length HS → symbol_of (living P s y) ≡ Some (get_or HS (length pre) 0) → (y ∈ pre → ⊥) → (length pre ≡ h → y ≡ i) → Begun T P s k h i r (pre ++ (y ∷ []))
-    more y l e n a = record { place = b.place; rule = b.rule; few = one_room l (length-append pre (y ∷ [])); matches = matches_more (living P s) HS pre y l b.matches e; distinct = distinct_more pre y b.distinct n; at = λ m. go (cases_eq (length pre) h) m }
+    more : (y : ℕ) → length pre < length (heads (rule_of s k)) → symbol_of (living P s y) ≡ Some (get_or (heads (rule_of s k)) (length pre) 0) → (y ∈ pre → ⊥) → (length pre ≡ h → y ≡ i) → Begun T P s k h i r (pre ++ (y ∷ []))
+    more y l e n a = record { place = b.place; rule = b.rule; few = one_room l (length-append pre (y ∷ [])); matches = matches_more (living P s) (heads (rule_of s k)) pre y l b.matches e; distinct = distinct_more pre y b.distinct n; at = λ m. go (cases_eq (length pre) h) m }
       where
         go : (length pre ≡ h) ⊎ (length pre ≡ h → ⊥) → h < length (pre ++ (y ∷ [])) → get_or (pre ++ (y ∷ [])) h 0 ≡ i
         go (inl q) m = get_or_at pre y [] 0 h q ∙ a q
         go (inr q) m = let m' : h < length pre = not_last m (length-append pre (y ∷ [])) q in get_or_append_left pre (y ∷ []) 0 h m' ∙ b.at m'
 
     module _ (l : length pre < length (heads r)) where
-      room : length pre < length HS
+      room : length pre < length (heads (rule_of s k))
       room = as_many l count
 
       -- at the active head
-      active_next : (ys : List ℕ) → length pre ≡ h → F (pre ++ ys) → (zs : List ℕ) × (ys ≡ i ∷ zs)
+      active_next : (ys : List ℕ) → length pre ≡ h → Fits T P s k h i (pre ++ ys) → (zs : List ℕ) × (ys ≡ i ∷ zs)
       active_next [] e f = absurd (short room (long (pre ++ []) f) (length-append pre []))
       active_next (y ∷ zs) e f = (zs, ap (λ z. z ∷ zs) (sym (get_or_at pre y zs 0 h e) ∙ f.at))
 
-      pub active_twice : length pre ≡ h → i ∈ pre → Finds pre None
-      active_twice e m ys f = let z = active_next ys e f in next_new pre i z.0 (subst (λ w. F (pre ++ w)) z.1 f) m
+      pub active_twice : length pre ≡ h → i ∈ pre → FirstFrom T P s k h i pre None
+      active_twice e m ys f = let z = active_next ys e f in next_new pre i z.0 (subst (λ w. Fits T P s k h i (pre ++ w)) z.1 f) m
 
       pub active_begun : length pre ≡ h → (i ∈ pre → ⊥) → Begun T P s k h i r (pre ++ (i ∷ []))
-      active_begun e n = more i room (b.place.alive ∙ ap (λ p. Some (get_or HS p 0)) (sym e)) n (λ q. refl)
+      active_begun e n = more i room (b.place.alive ∙ ap (λ p. Some (get_or (heads (rule_of s k)) p 0)) (sym e)) n (λ q. refl)
 
-      pub active_found : length pre ≡ h → (o : Option (List ℕ)) → Finds (pre ++ (i ∷ [])) o → Finds pre o
-      active_found e None n = λ ys f. let z = active_next ys e f in n z.0 (subst F (ap (λ w. pre ++ w) z.1 ∙ sym (one_more pre z.0 i)) f)
+      pub active_found : length pre ≡ h → (o : Option (List ℕ)) → FirstFrom T P s k h i (pre ++ (i ∷ [])) o → FirstFrom T P s k h i pre o
+      active_found e None n = λ ys f. let z = active_next ys e f in n z.0 (subst (Fits T P s k h i) (ap (λ w. pre ++ w) z.1 ∙ sym (one_more pre z.0 i)) f)
       active_found e (Some xs) w = record { rest = i ∷ w.rest; begins = w.begins ∙ one_more pre w.rest i; fits = w.fits; least = λ ys f. go ys f (active_next ys e f) }
         where
-          go : (ys : List ℕ) → F (pre ++ ys) → ((zs : List ℕ) × (ys ≡ i ∷ zs)) → NoLater xs (pre ++ ys)
-          go ys f z = let q : pre ++ ys ≡ (pre ++ (i ∷ [])) ++ z.0 = ap (λ w. pre ++ w) z.1 ∙ sym (one_more pre z.0 i) in subst (NoLater xs) (sym q) (w.least z.0 (subst F q f))
+          go : (ys : List ℕ) → Fits T P s k h i (pre ++ ys) → ((zs : List ℕ) × (ys ≡ i ∷ zs)) → NoLater xs (pre ++ ys)
+          go ys f z = let q : pre ++ ys ≡ (pre ++ (i ∷ [])) ++ z.0 = ap (λ w. pre ++ w) z.1 ∙ sym (one_more pre z.0 i) in subst (NoLater xs) (sym q) (w.least z.0 (subst (Fits T P s k h i) q f))
 
       -- the key of the next head
-      pub key_fits : (key : Option ℤ) → key ≡ key_at s.book.arities (living P s) r (filler_at pre h i) (length pre) → Keyed pre key
-      key_fits key e y ys f = subst (λ o. has_key o (arguments_of (living P s y)) ≡ true) (sym (e ∙ ap (λ z. key_at s.book.arities (living P s) z (filler_at pre h i) (length pre)) b.rule)) (subst (λ (x : ℕ). has_key (key_at s.book.arities (living P s) (rule_of s k) (filler_at pre h i) (length pre)) (arguments_of (living P s x)) ≡ true) (get_or_at pre y ys 0 (length pre) refl) (keyed_partners T P s b.place.stands k h i (pre ++ (y ∷ ys)) f (filler_at pre h i) (agrees pre (y ∷ ys) h i f.at) (length pre) room))
+      key_fits : KeyFits T P s k h i pre (key_at s.book.arities (living P s) r (filler_at pre h i) (length pre))
+      key_fits y ys f = subst (λ o. has_key o (arguments_of (living P s y)) ≡ true) (sym (ap (λ z. key_at s.book.arities (living P s) z (filler_at pre h i) (length pre)) b.rule)) (subst (λ (x : ℕ). has_key (key_at s.book.arities (living P s) (rule_of s k) (filler_at pre h i) (length pre)) (arguments_of (living P s x)) ≡ true) (get_or_at pre y ys 0 (length pre) refl) (keyed_partners T P s b.place.stands k h i (pre ++ (y ∷ ys)) f (filler_at pre h i) (agrees pre (y ∷ ys) h i f.at) (length pre) room))
 
       -- at another head
-      module _ (symbol : ℕ) (is : symbol ≡ get_or (heads r) (length pre) 0) (key : Option ℤ) (keyed : Keyed pre key) where
-        has_symbol : symbol ≡ get_or HS (length pre) 0
+      module _ {symbol : ℕ} (is : symbol ≡ get_or (heads r) (length pre) 0) where
+        has_symbol : symbol ≡ get_or (heads (rule_of s k)) (length pre) 0
         has_symbol = is ∙ ap (λ z. get_or z (length pre) 0) same_heads
 
-        replies : (y : ℕ) (ys : List ℕ) → F (pre ++ (y ∷ ys)) → any_answers (Some symbol) key (P.records s.table y) ≡ true
-        replies y ys f = first_answers (P.records s.table y) symbol key (next_symbol pre y ys f ∙ ap (λ z. Some z) (sym has_symbol)) (keyed y ys f)
+        replies : (y : ℕ) (ys : List ℕ) → Fits T P s k h i (pre ++ (y ∷ ys)) → any_answers (Some symbol) (key_at s.book.arities (living P s) r (filler_at pre h i) (length pre)) (P.records s.table y) ≡ true
+        replies y ys f = first_answers (P.records s.table y) symbol (key_at s.book.arities (living P s) r (filler_at pre h i) (length pre)) (next_symbol pre y ys f ∙ ap (λ z. Some z) (sym has_symbol)) (key_fits y ys f)
 
         -- no identifier below the next answer leads to a fitting tuple
-        pub passed_below : (last x : ℕ) → Passed pre last → NextOf (P.records s.table) (Some symbol) key last (Some x) → NoneBelow pre x
+        pub passed_below : (last x : ℕ) → Passed T P s k h i pre last → NextOf (P.records s.table) (Some symbol) (key_at s.book.arities (living P s) r (filler_at pre h i) (length pre)) last (Some x) → NoneBelow T P s k h i pre x
         passed_below last x p n y ys l f = go (cases_lt last y)
           where
             go : (last < y) ⊎ (y ≤ last) → ⊥
             go (inr m) = p y ys m f
-            go (inl m) = both_ways (any_answers (Some symbol) key (P.records s.table y)) (n.2 y m l) (replies y ys f)
+            go (inl m) = both_ways (any_answers (Some symbol) (key_at s.book.arities (living P s) r (filler_at pre h i) (length pre)) (P.records s.table y)) (n.2 y m l) (replies y ys f)
 
-        pub none_left : (last : ℕ) → Passed pre last → NextOf (P.records s.table) (Some symbol) key last None → Finds pre None
-        none_left last p n ys f = let z = next_there pre ys room f in go z.0 z.1 (subst (λ w. F (pre ++ w)) z.2 f) (cases_lt last z.0)
+        pub none_left : (last : ℕ) → Passed T P s k h i pre last → NextOf (P.records s.table) (Some symbol) (key_at s.book.arities (living P s) r (filler_at pre h i) (length pre)) last None → FirstFrom T P s k h i pre None
+        none_left last p n ys f = let z = next_there pre ys room f in go z.0 z.1 (subst (λ w. Fits T P s k h i (pre ++ w)) z.2 f) (cases_lt last z.0)
           where
-            go : (y : ℕ) (zs : List ℕ) → F (pre ++ (y ∷ zs)) → (last < y) ⊎ (y ≤ last) → ⊥
+            go : (y : ℕ) (zs : List ℕ) → Fits T P s k h i (pre ++ (y ∷ zs)) → (last < y) ⊎ (y ≤ last) → ⊥
             go y zs f (inr m) = p y zs m f
-            go y zs f (inl m) = both_ways (any_answers (Some symbol) key (P.records s.table y)) (n y m) (replies y zs f)
+            go y zs f (inl m) = both_ways (any_answers (Some symbol) (key_at s.book.arities (living P s) r (filler_at pre h i) (length pre)) (P.records s.table y)) (n y m) (replies y zs f)
 
         pub fill_begun : (x : ℕ) → (length pre ≡ h → ⊥) → MayFill (living P s) i symbol pre x → Begun T P s k h i r (pre ++ (x ∷ []))
         fill_begun x n m = more x room (m.has ∙ ap (λ z. Some z) has_symbol) m.new (λ q. absurd (n q))
 
-        next_other : (y : ℕ) (ys : List ℕ) → (length pre ≡ h → ⊥) → F (pre ++ (y ∷ ys)) → y ≡ i → ⊥
+        next_other : (y : ℕ) (ys : List ℕ) → (length pre ≡ h → ⊥) → Fits T P s k h i (pre ++ (y ∷ ys)) → y ≡ i → ⊥
         next_other y ys n f e = n (sym (distinct_at pre y ys h f.applies.distinct (inside b.place.within (long (pre ++ (y ∷ ys)) f)) (f.at ∙ sym e)))
 
-        pub unfit : (x : ℕ) → (length pre ≡ h → ⊥) → (MayFill (living P s) i symbol pre x → ⊥) → (ys : List ℕ) → F (pre ++ (x ∷ ys)) → ⊥
+        pub unfit : (x : ℕ) → (length pre ≡ h → ⊥) → (MayFill (living P s) i symbol pre x → ⊥) → (ys : List ℕ) → Fits T P s k h i (pre ++ (x ∷ ys)) → ⊥
         unfit x n m ys f = m (record { other = next_other x ys n f; new = next_new pre x ys f; has = next_symbol pre x ys f ∙ ap (λ z. Some z) (sym has_symbol) })
 
-      found_here : (x : ℕ) (xs : List ℕ) → NoneBelow pre x → Finds (pre ++ (x ∷ [])) (Some xs) → Finds pre (Some xs)
-      found_here x xs below w = record { rest = x ∷ w.rest; begins = w.begins ∙ one_more pre w.rest x; fits = w.fits; least = λ ys f. let z = next_there pre ys room f in subst (λ v. NoLater xs (pre ++ v)) (sym z.2) (go z.0 z.1 (subst (λ v. F (pre ++ v)) z.2 f) (cases_order x z.0)) }
+      found_here : (x : ℕ) (xs : List ℕ) → NoneBelow T P s k h i pre x → FirstFrom T P s k h i (pre ++ (x ∷ [])) (Some xs) → FirstFrom T P s k h i pre (Some xs)
+      found_here x xs below w = record { rest = x ∷ w.rest; begins = w.begins ∙ one_more pre w.rest x; fits = w.fits; least = λ ys f. let z = next_there pre ys room f in subst (λ v. NoLater xs (pre ++ v)) (sym z.2) (go z.0 z.1 (subst (λ v. Fits T P s k h i (pre ++ v)) z.2 f) (cases_order x z.0)) }
         where
-          go : (y : ℕ) (zs : List ℕ) → F (pre ++ (y ∷ zs)) → (x ≡ y) ⊎ ((x < y) ⊎ (y < x)) → NoLater xs (pre ++ (y ∷ zs))
-          go y zs f (inl e) = subst (λ v. NoLater xs (pre ++ (v ∷ zs))) e (subst (NoLater xs) (one_more pre zs x) (w.least zs (subst F (sym (one_more pre zs x)) (subst (λ v. F (pre ++ (v ∷ zs))) (sym e) f))))
+          go : (y : ℕ) (zs : List ℕ) → Fits T P s k h i (pre ++ (y ∷ zs)) → (x ≡ y) ⊎ ((x < y) ⊎ (y < x)) → NoLater xs (pre ++ (y ∷ zs))
+          go y zs f (inl e) = subst (λ v. NoLater xs (pre ++ (v ∷ zs))) e (subst (NoLater xs) (one_more pre zs x) (w.least zs (subst (Fits T P s k h i) (sym (one_more pre zs x)) (subst (λ v. Fits T P s k h i (pre ++ (v ∷ zs))) (sym e) f))))
           go y zs f (inr (inl m)) = subst (λ v. NoLater v (pre ++ (y ∷ zs))) (sym (w.begins ∙ one_more pre w.rest x)) (no_later_less pre x y w.rest zs m)
           go y zs f (inr (inr m)) = absurd (below y zs m f)
 
-      pub found_any : {D : Type 0} (f : D → List ℕ) (x : ℕ) → NoneBelow pre x → (o : Option D) → is_some o ≡ true → Finds (pre ++ (x ∷ [])) (option_map f o) → Finds pre (option_map f o)
+      pub found_any : {D : Type 0} (f : D → List ℕ) (x : ℕ) → NoneBelow T P s k h i pre x → (o : Option D) → is_some o ≡ true → FirstFrom T P s k h i (pre ++ (x ∷ [])) (option_map f o) → FirstFrom T P s k h i pre (option_map f o)
       found_any f x below None e w = absurd (false≢true e)
       found_any f x below (Some a) e w = found_here x (f a) below w
 
-  pub passed_none : ((y : ℕ) → All (λ r. fit y r ≡ true) (P.records s.table y)) → (pre : List ℕ) → Passed pre 0
-  passed_none fits pre y ys l f = not_none l (low_first y (P.records s.table y) (get_or HS (length pre) 0) (fits y) (next_symbol pre y ys f))
+module _ {A B : Type 0} (T : Theory.Ghosts A) (P : PartnerTable.Ghosts B) (s : Config A B) (k h i : ℕ) where
+  -- from the empty tuple on
+  pub begun_none : (r : Rule) → AtHead T P s k h i → r ≡ rule_of s k → Begun T P s k h i r []
+  begun_none r a e = record { place = a; rule = e; few = zero-le; matches = tt; distinct = tt; at = λ l. absurd (not-suc-le-zero l) }
 
-  pub passed_more : (pre : List ℕ) (x : ℕ) → NoneBelow pre x → ((ys : List ℕ) → F (pre ++ (x ∷ ys)) → ⊥) → Passed pre x
+  pub searched : {D : Type 0} (f : D → List ℕ) (o : Option D) → FirstFrom T P s k h i [] (option_map f o) → Searched T P s k h i (option_map f o)
+  searched f None n = n
+  searched f (Some x) w = record { fits = w.fits; before = λ other g. in_order (f x) other h (w.fits.at ∙ sym g.at) (length (heads (rule_of s k))) (long (f x) w.fits) (long other g) (w.least other g) }
+
+  pub passed_none : ((y : ℕ) → All (λ r. fit y r ≡ true) (P.records s.table y)) → (pre : List ℕ) → Passed T P s k h i pre 0
+  passed_none fits pre y ys l f = not_none l (low_first y (P.records s.table y) (get_or (heads (rule_of s k)) (length pre) 0) (fits y) (next_symbol pre y ys f))
+
+  pub passed_more : (pre : List ℕ) (x : ℕ) → NoneBelow T P s k h i pre x → ((ys : List ℕ) → Fits T P s k h i (pre ++ (x ∷ ys)) → ⊥) → Passed T P s k h i pre x
   passed_more pre x below here y ys l f = go (cases_lt y x)
     where
       go : (y < x) ⊎ (x ≤ y) → ⊥
       go (inl m) = below y ys m f
-      go (inr m) = here ys (subst (λ z. F (pre ++ (z ∷ ys))) (between l m) f)
+      go (inr m) = here ys (subst (λ z. Fits T P s k h i (pre ++ (z ∷ ys))) (between l m) f)
 
-  pub tried_any : {D : Type 0} (f : D → List ℕ) (pre : List ℕ) (x : ℕ) → (o : Option D) → is_some o ≡ false → Finds (pre ++ (x ∷ [])) (option_map f o) → (ys : List ℕ) → F (pre ++ (x ∷ ys)) → ⊥
-  tried_any f pre x None e w ys g = w ys (subst F (sym (one_more pre ys x)) g)
+  pub tried_any : {D : Type 0} (f : D → List ℕ) (pre : List ℕ) (x : ℕ) → (o : Option D) → is_some o ≡ false → FirstFrom T P s k h i (pre ++ (x ∷ [])) (option_map f o) → (ys : List ℕ) → Fits T P s k h i (pre ++ (x ∷ ys)) → ⊥
+  tried_any f pre x None e w ys g = w ys (subst (Fits T P s k h i) (sym (one_more pre ys x)) g)
   tried_any f pre x (Some a) e w ys g = absurd (true≢false e)
