@@ -119,6 +119,10 @@ module _ {A B : Type 0} {T : Theory.Ghosts A} {P : PartnerTable.Ghosts B} {s : C
   next_new : (pre : List ℕ) (y : ℕ) (ys : List ℕ) → Fits T P s k h i (pre ++ (y ∷ ys)) → y ∈ pre → ⊥
   next_new pre y ys f = distinct_next pre y ys f.applies.distinct
 
+  -- what is found from a tuple that is begun is found from an equal one
+  pub found_from : {r : Rule} {pre other : List ℕ} → pre ≡ other → (o : Option (List ℕ)) → (Begun T P s k h i r pre → FirstFrom T P s k h i pre o) → Begun T P s k h i r other → FirstFrom T P s k h i other o
+  found_from {r = r} e o f b = subst (λ z. FirstFrom T P s k h i z o) e (f (subst (Begun T P s k h i r) (sym e) b))
+
   module _ {r : Rule} {pre : List ℕ} (b : Begun T P s k h i r pre) where
     same_heads : heads r ≡ (heads (rule_of s k))
     same_heads = ap heads b.rule

@@ -1,14 +1,12 @@
-use Rattle.std.proofs.Common.{◌≡◌, ℕ, ◌-◌, ◌<◌, ◌≤◌, [], ◌∷◌, ◌++◌, length, get_or, refl, sym, ap, ◌∙◌, subst, arith}
+use Rattle.std.proofs.Common.{◌≡◌, ℕ, ◌-◌, ◌<◌, ◌≤◌, length, refl, sym, ap, ◌∙◌, subst, arith}
 use Rattle.std.specs.Option.{option_map}
-use Rattle.std.proofs.lemmas.List.{length_push}
 use Rattle.rules.specs.Books.{heads}
 use Rattle.rules.specs.Views.{rule_of}
 use Rattle.machine.specs.Tuples.{ids}
-use Rattle.seek.specs.Searches.{view, Begun, FirstFrom}
-use Rattle.seek.proofs.Fitting.{with_more}
+use Rattle.seek.specs.Searches.{view, FirstFrom}
 use Rattle.seek.proofs.Occurring.{heads_are}
 use Rattle.tablelaws.proofs.Stepping.{begun, gone_on, next_step}
-use Rattle.seek.proofs.Searching.{Passed, room_for, head_symbol, with_one, fewer_left, filled, active_twice, active_begun, active_found, passed_none, passed_below, passed_more, unfit, fill_begun, none_left, found_any, tried_any}
+use Rattle.seek.proofs.Searching.{Passed, room_for, head_symbol, with_one, fewer_left, found_from, filled, active_twice, active_begun, active_found, passed_none, passed_below, passed_more, unfit, fill_begun, none_left, found_any, tried_any}
 use Rattle.seek.proofs.partners.Search.+first_from.Goals as goal
 
 pub returns-then-place-heads : goal.returns-then-place-heads
@@ -37,7 +35,7 @@ returns-else-has g t c b =
     let lt = room_for eq c.as_slice-place.ensures.value c.if-place-heads.false in
     let at : length (ids c.args.tuple) ≡ c.args.attempt.head = sym (ap length c.as_slice-place.ensures.value) ∙ c.if-place-attempt.true in
     let wi = with_one (ids c.args.tuple) c.args.attempt.active lt c.args.attempt.few c.with.ensures in
-    active_found b lt at (option_map ids c.first_from.result) (subst (λ z. FirstFrom g.T.Theory g.P.PartnerTable (view c.args.self.now) c.args.attempt.number c.args.attempt.head c.args.attempt.active z (option_map ids c.first_from.result)) wi (c.first_from.ensures (subst (Begun g.T.Theory g.P.PartnerTable (view c.args.self.now) c.args.attempt.number c.args.attempt.head c.args.attempt.active (rule_of c.args.attempt.rule.now)) (sym wi) (active_begun b lt at c.if-has.ensures))))
+    active_found b lt at (option_map ids c.first_from.result) (found_from wi (option_map ids c.first_from.result) c.first_from.ensures (active_begun b lt at c.if-has.ensures))
 
 pub loop-identifier-init : goal.loop-identifier-init
 loop-identifier-init g t c =
@@ -62,7 +60,7 @@ returns-then-is_some g t c b =
     let ne : length (ids c.args.tuple) ≡ c.args.attempt.head → ⊥ = λ e. c.if-place-attempt.false (ap length c.as_slice-place.ensures.value ∙ e) in
     let sy = head_symbol eq c.as_slice-place.ensures.value in
     let wi = with_one (ids c.args.tuple) c.in-Some.identifier lt c.args.attempt.few c.with-then-may_fill.ensures in
-    found_any b lt ids c.in-Some.identifier (passed_below b lt sy c.loop-identifier.identifier-iterator.above c.in-Some.identifier (c.loop-identifier.invariant.passed b) (next_step g.P.PartnerTable c.loop-identifier.invariant.visit c.in-Some.ensures.steps)) c.first_from-found.result (sym c.is_some.ensures ∙ c.if-is_some.true) (subst (λ z. FirstFrom g.T.Theory g.P.PartnerTable (view c.args.self.now) c.args.attempt.number c.args.attempt.head c.args.attempt.active z (option_map ids c.first_from-found.result)) wi (c.first_from-found.ensures (subst (Begun g.T.Theory g.P.PartnerTable (view c.args.self.now) c.args.attempt.number c.args.attempt.head c.args.attempt.active (rule_of c.args.attempt.rule.now)) (sym wi) (fill_begun b lt sy c.in-Some.identifier ne c.if-may_fill.ensures))))
+    found_any b lt ids c.in-Some.identifier (passed_below b lt sy c.loop-identifier.identifier-iterator.above c.in-Some.identifier (c.loop-identifier.invariant.passed b) (next_step g.P.PartnerTable c.loop-identifier.invariant.visit c.in-Some.ensures.steps)) c.first_from-found.result (sym c.is_some.ensures ∙ c.if-is_some.true) (found_from wi (option_map ids c.first_from-found.result) c.first_from-found.ensures (fill_begun b lt sy c.in-Some.identifier ne c.if-may_fill.ensures))
 
 pub loop-identifier-preserved-else-is_some : goal.loop-identifier-preserved-else-is_some
 loop-identifier-preserved-else-is_some g t c =
@@ -77,7 +75,7 @@ loop-identifier-preserved-else-is_some g t c =
           let ne : length (ids c.args.tuple) ≡ c.args.attempt.head → ⊥ = λ e. c.if-place-attempt.false (ap length c.as_slice-place.ensures.value ∙ e) in
           let sy = head_symbol eq c.as_slice-place.ensures.value in
           let wi = with_one (ids c.args.tuple) c.in-Some.identifier lt c.args.attempt.few c.with-then-may_fill.ensures in
-          passed_more g.T.Theory g.P.PartnerTable (view c.args.self.now) c.args.attempt.number c.args.attempt.head c.args.attempt.active (ids c.args.tuple) c.in-Some.identifier (passed_below b lt sy c.loop-identifier.identifier-iterator.above c.in-Some.identifier (c.loop-identifier.invariant.passed b) (next_step g.P.PartnerTable c.loop-identifier.invariant.visit c.in-Some.ensures.steps)) (tried_any g.T.Theory g.P.PartnerTable (view c.args.self.now) c.args.attempt.number c.args.attempt.head c.args.attempt.active ids (ids c.args.tuple) c.in-Some.identifier c.first_from-found.result (sym c.is_some.ensures ∙ c.if-is_some.false) (subst (λ z. FirstFrom g.T.Theory g.P.PartnerTable (view c.args.self.now) c.args.attempt.number c.args.attempt.head c.args.attempt.active z (option_map ids c.first_from-found.result)) wi (c.first_from-found.ensures (subst (Begun g.T.Theory g.P.PartnerTable (view c.args.self.now) c.args.attempt.number c.args.attempt.head c.args.attempt.active (rule_of c.args.attempt.rule.now)) (sym wi) (fill_begun b lt sy c.in-Some.identifier ne c.if-may_fill.ensures))))));
+          passed_more g.T.Theory g.P.PartnerTable (view c.args.self.now) c.args.attempt.number c.args.attempt.head c.args.attempt.active (ids c.args.tuple) c.in-Some.identifier (passed_below b lt sy c.loop-identifier.identifier-iterator.above c.in-Some.identifier (c.loop-identifier.invariant.passed b) (next_step g.P.PartnerTable c.loop-identifier.invariant.visit c.in-Some.ensures.steps)) (tried_any g.T.Theory g.P.PartnerTable (view c.args.self.now) c.args.attempt.number c.args.attempt.head c.args.attempt.active ids (ids c.args.tuple) c.in-Some.identifier c.first_from-found.result (sym c.is_some.ensures ∙ c.if-is_some.false) (found_from wi (option_map ids c.first_from-found.result) c.first_from-found.ensures (fill_begun b lt sy c.in-Some.identifier ne c.if-may_fill.ensures))));
     }
 
 pub loop-identifier-preserved : goal.loop-identifier-preserved
