@@ -21,6 +21,7 @@ fn list(rt: &HostRuntime, bytes: &[u8], rules: &Rules, copy: &[u8]) -> anyhow::R
     let size = bytes.len();
     let symbols = rules.signature().symbols();
     let count = rules.rules().len();
+    // The other program that compares, the checks of rule files, has words of its own; both in one call would be longer than this.
     let how = if copy == bytes {
         "the same"
     } else {

@@ -29,6 +29,7 @@ fn try_file(rt: &HostRuntime, bytes: &[u8]) -> anyhow::Result<()> {
         Ok((rules, copy)) => {
             let symbols = rules.signature().symbols();
             let count = rules.rules().len();
+            // The other program that compares, the list of a rule file, has words of its own; both in one call would be longer than this.
             let how = if copy.as_slice() == bytes {
                 "same"
             } else {

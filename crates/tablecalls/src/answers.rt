@@ -43,13 +43,15 @@ pub(crate) fn make<P: PartnerTable>(table: &mut P, call: &Call) -> Answer {
             Answer::Cleared
         }
         Call::Count => Answer::Count(table.count()),
-        Call::Put(identifier, symbol, arguments) => {
-            Answer::Put(table.put(*identifier, *symbol, arguments.as_slice()))
-        }
+        Call::Put {
+            identifier,
+            symbol,
+            arguments,
+        } => Answer::Put(table.put(*identifier, *symbol, arguments.as_slice())),
         Call::Remove(identifier) => Answer::Removed(table.remove(*identifier)),
-        Call::Next(symbol, key, above) => Answer::Next(table.next(*symbol, *key, *above)),
+        Call::Next { symbol, key, above } => Answer::Next(table.next(*symbol, *key, *above)),
         Call::Symbol(identifier) => Answer::Symbol(table.symbol(*identifier)),
-        Call::Argument(identifier, place) => {
+        Call::Argument { identifier, place } => {
             Answer::Argument(table.argument(*identifier, *place))
         }
     }

@@ -9,30 +9,48 @@ use terms::Operand;
 pub enum Call {
     Clear,
     Count,
-    Put(u32, u8, Vec<Operand>),
+    Put {
+        identifier: u32,
+        symbol: u8,
+        arguments: Vec<Operand>,
+    },
     Remove(u32),
-    Next(Option<u8>, Option<i32>, u32),
+    Next {
+        symbol: Option<u8>,
+        key: Option<i32>,
+        above: u32,
+    },
     Symbol(u32),
-    Argument(u32, usize),
+    Argument {
+        identifier: u32,
+        place: usize,
+    },
 }
 
 /// The call that a line says: its name and its arguments, with spaces between them. None is written `-`, and the variable 5 `x5`.
 pub(crate) fn parse(heap: Global, line: &str) -> anyhow::Result<Call> {
     let words = &mut line.split_whitespace();
-    match word(words)? {
-        "clear" => Ok(Call::Clear),
-        "count" => Ok(Call::Count),
-        "remove" => Ok(Call::Remove(word(words)?.parse()?)),
-        "symbol" => Ok(Call::Symbol(word(words)?.parse()?)),
-        "argument" => Ok(Call::Argument(word(words)?.parse()?, word(words)?.parse()?)),
-        "next" => Ok(Call::Next(
-            parse_optional(word(words)?)?,
-            parse_optional(word(words)?)?,
-            word(words)?.parse()?,
-        )),
-        "put" => parse_put(heap, words),
-        _ => Err(anyhow!("no such call")),
-    }
+    Ok(match word(words)? {
+        "clear" => Call::Clear,
+        "count" => Call::Count,
+        "remove" => Call::Remove(word(words)?.parse()?),
+        "symbol" => Call::Symbol(word(words)?.parse()?),
+        "argument" => Call::Argument {
+            identifier: word(words)?.parse()?,
+            place: word(words)?.parse()?,
+        },
+        "next" => Call::Next {
+            symbol: parse_optional(word(words)?)?,
+            key: parse_optional(word(words)?)?,
+            above: word(words)?.parse()?,
+        },
+        "put" => Call::Put {
+            identifier: word(words)?.parse()?,
+            symbol: word(words)?.parse()?,
+            arguments: parse_operands(heap, words)?,
+        },
+        _ => return Err(anyhow!("no such call")),
+    })
 }
 
 fn word<'a>(words: &mut SplitWhitespace<'a>) -> anyhow::Result<&'a str> {
@@ -47,14 +65,12 @@ fn parse_optional<T: FromStr<Err = ParseIntError>>(word: &str) -> anyhow::Result
     }
 }
 
-fn parse_put(heap: Global, words: &mut SplitWhitespace<'_>) -> anyhow::Result<Call> {
-    let identifier = word(words)?.parse()?;
-    let symbol = word(words)?.parse()?;
-    let mut arguments = Vec::new(heap);
+fn parse_operands(heap: Global, words: &mut SplitWhitespace<'_>) -> anyhow::Result<Vec<Operand>> {
+    let mut operands = Vec::new(heap);
     for text in words {
-        arguments.push(parse_operand(text)?)?;
+        operands.push(parse_operand(text)?)?;
     }
-    Ok(Call::Put(identifier, symbol, arguments))
+    Ok(operands)
 }
 
 /// A number, or `x` with a variable's number.

@@ -34,28 +34,24 @@ fn print_answers<P: PartnerTable + Drop>(
     Ok(())
 }
 
-fn run(rt: &HostRuntime) -> anyhow::Result<()> {
+fn main(rt: HostRuntime) -> anyhow::Result<()> {
     let heap = rt.alloc();
-    let calls = read_calls(rt)?;
-    print_answers(rt, "scan", ScanTable::new(heap)?, calls.as_slice())?;
-    print_answers(rt, "chain", ChainTable::new(heap)?, calls.as_slice())?;
+    let calls = read_calls(&rt)?;
+    print_answers(&rt, "scan", ScanTable::new(heap)?, calls.as_slice())?;
+    print_answers(&rt, "chain", ChainTable::new(heap)?, calls.as_slice())?;
     print_answers(
-        rt,
+        &rt,
         "front before scan",
         FrontTable::new(heap, ScanTable::new(heap)?)?,
         calls.as_slice(),
     )?;
     let front = FrontTable::new(heap, ChainTable::new(heap)?)?;
-    print_answers(rt, "front before chain", front, calls.as_slice())?;
+    print_answers(&rt, "front before chain", front, calls.as_slice())?;
     let front = FrontTable::new(heap, ChainTable::new(heap)?)?;
     print_answers(
-        rt,
+        &rt,
         "front before front",
         FrontTable::new(heap, front)?,
         calls.as_slice(),
     )
-}
-
-fn main(rt: HostRuntime) -> anyhow::Result<()> {
-    run(&rt)
 }

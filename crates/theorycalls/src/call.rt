@@ -46,6 +46,7 @@ impl TryFrom<&[&str]> for Call {
 }
 
 /// A primitive: its kind, an operand, and an operand or a number.
+// The kind is the word that is read; as patterns of a whole line the three would be said twice, for `tell` and for `ask`.
 fn primitive(kind: &str, a: &str, b: &str) -> Result<Primitive<Operand>, NoCall> {
     let a = operand(a)?;
     Ok(match kind {
@@ -56,6 +57,7 @@ fn primitive(kind: &str, a: &str, b: &str) -> Result<Primitive<Operand>, NoCall>
 }
 
 /// A number, or `v` with a variable's number.
+// The program of tables reads another letter and has another error; a call for both would be longer than this.
 fn operand(word: &str) -> Result<Operand, NoCall> {
     Ok(match word.strip_prefix("v") {
         Some(number) => Operand::Variable(number.parse()?),

@@ -47,6 +47,7 @@ fn main(rt: HostRuntime) -> anyhow::Result<()> {
             continue;
         };
         let call = Call::try_from(rest)?;
+        // The theories are two types, and `dyn` asks that every member has a receiver, which a capacity has not.
         let answer = match *theory {
             "names" => perform(&mut names, call),
             _ => perform(&mut bounds, call),
