@@ -84,7 +84,7 @@ impl<P: PartnerTable> Partial<'_, P> {
     fn key_from(&self, slot: u8, guards: &[Primitive<Term>]) -> Option<i32>
         ensures { result ≡ key_from (known_in P.PartnerTable self.now) slot guards.now }
     {
-        // A loop, since nothing that is proved of `find_map` says which item it found.
+        // A loop: what `find_map` ensures is told of its calls, and no lemma leads from them to the items of a slice.
         for guard in guards {
             let value = self.tied_to(slot, *guard);
             if value.is_some() {
