@@ -4,24 +4,24 @@ use Rattle.std.proofs.lemmas.List.{length_push, take_all, take-append-le, length
 use Rattle.std.specs.List.{HoldsAt, AllWithin, range_with_len}
 use Rattle.std.proofs.lemmas.List.FromFn.{get_or-range_with_len}
 use Rattle.std.proofs.lemmas.Bool.{cases_lt, and_parts, leb-true, both_ways}
+use Rattle.std.proofs.lemmas.Option.{same_Some}
 use Rattle.terms.specs.declared.Operand.TheVariants.{Variable}
 use Rattle.terms.specs.Domains.{Domain}
 use Rattle.terms.specs.Lists.{All}
 use Rattle.theory.specs.Meanings.{Meaning, Fixed}
 use Rattle.table.specs.Lists.{first, nth}
+use Rattle.table.specs.Looks.{low_fit}
 use Rattle.table.specs.Nexts.{any_answers, NextOf}
 use Rattle.table.specs.Records.{Record, fit, all_fitting, argument_of}
 use Rattle.table.specs.Tables.{Table}
+use Rattle.tablelaws.proofs.Visiting.{high_answer}
 use Rattle.machine.specs.Lists.{◌∈◌, here, there, Rising}
 use Rattle.machine.proofs.Members.{mem_cases, mem_none, mem_append, mem_left, mem_right}
 use Rattle.lists.specs.Wakings.{OpenSays, UnfixedSays, Collected}
 
-pub some_inj : {A : Type 0} {x y : A} → Some x ≡ Some y → x ≡ y
-some_inj e = cc
-
 nth_in : {A : Type 0} (xs : List A) (k : ℕ) (x : A) → nth xs k ≡ Some x → x ∈ xs
 nth_in [] k x e = absurd (let z : ◌≡◌ {A = ℕ} 0 1 = cc in omega arith)
-nth_in (y ∷ ys) zero x e = subst (λ z. z ∈ (y ∷ ys)) (some_inj e) here
+nth_in (y ∷ ys) zero x e = subst (λ z. z ∈ (y ∷ ys)) (same_Some _ _ e) here
 nth_in (y ∷ ys) (suc k) x e = there (nth_in ys k x e)
 
 in_nth : {A : Type 0} {x : A} {xs : List A} → x ∈ xs → (k : ℕ) × (k < length xs) × (nth xs k ≡ Some x)
@@ -49,24 +49,12 @@ rising_push last x (i ∷ is) f l r = (push is r.0, rising_push last x is (λ j 
 abbrev pub Fitted : Table → Type 0
 Fitted t = (i : ℕ) → All (λ r. fit i r ≡ true) (t i)
 
--- the identifier of a record is from 1 to 1,000,000, and there are four arguments at most
-pub record Placed (i : ℕ) (r : Record) : Type 0 where
-  pub low : 1 ≤ i
-  pub high : i ≤ 1_000_000
-  pub few : length r.arguments ≤ 4
-
-placed : (i : ℕ) (r : Record) → fit i r ≡ true → Placed i r
-placed i r e =
-    let a = and_parts (leb 1 i) (leb i 1_000_000 && (ltb r.symbol 32 && (leb (length r.arguments) 4 && all_fitting r.arguments))) e in
-    let b = and_parts (leb i 1_000_000) (ltb r.symbol 32 && (leb (length r.arguments) 4 && all_fitting r.arguments)) a.1 in
+-- such a record has four arguments at most
+few_fit : (i : ℕ) (r : Record) → fit i r ≡ true → length r.arguments ≤ 4
+few_fit i r e =
+    let b = and_parts (leb i 1_000_000) (ltb r.symbol 32 && (leb (length r.arguments) 4 && all_fitting r.arguments)) (and_parts (leb 1 i) (leb i 1_000_000 && (ltb r.symbol 32 && (leb (length r.arguments) 4 && all_fitting r.arguments))) e).1 in
     let c = and_parts (ltb r.symbol 32) (leb (length r.arguments) 4 && all_fitting r.arguments) b.1 in
-    let d = and_parts (leb (length r.arguments) 4) (all_fitting r.arguments) c.1 in
-    record { low = leb-true 1 i a.0; high = leb-true i 1_000_000 b.0; few = leb-true (length r.arguments) 4 d.0 }
-
--- an identifier that answers is within the limits
-pub answering : (i : ℕ) (rs : List Record) → All (λ r. fit i r ≡ true) rs → any_answers None None rs ≡ true → (1 ≤ i) × (i ≤ 1_000_000)
-answering i [] f e = absurd (both_ways false refl e)
-answering i (r ∷ rs) f e = let p = placed i r f.0 in (p.low, p.high)
+    leb-true (length r.arguments) 4 (and_parts (leb (length r.arguments) 4) (all_fitting r.arguments) c.1).0
 
 module _ {d : Domain} (m : Meaning d) where
   -- the arguments before a place are values or fixed
@@ -79,7 +67,7 @@ module _ {d : Domain} (m : Meaning d) where
 
   pub all_fixed : (i : ℕ) (rs : List Record) → All (λ r. fit i r ≡ true) rs → FixedBefore (first rs) 4 → UnfixedSays m false (first rs)
   all_fixed i [] p f = tt
-  all_fixed i (r ∷ rs) p f = λ x n. let k = in_nth n in f k.0 x (omega (arith, k.1, (placed i r p.0).few)) k.2
+  all_fixed i (r ∷ rs) p f = λ x n. let k = in_nth n in f k.0 x (omega (arith, k.1, few_fit i r p.0)) k.2
 
   -- what was said of each place says it of the whole
   pub unfixed_any : (i : ℕ) (rs : List Record) → All (λ r. fit i r ≡ true) rs → (b : Bool) → MatchBool b ((k : ℕ) × (k < length (range_with_len 0 4)) × HoldsAt (λ place. OpenSays m true (argument_of (first rs) place)) (range_with_len 0 4) k) (AllWithin (λ place. OpenSays m false (argument_of (first rs) place)) (range_with_len 0 4) 0 (length (range_with_len 0 4))) → UnfixedSays m b (first rs)
@@ -120,7 +108,7 @@ module _ {d : Domain} (m : Meaning d) where
       where
         go : (rs : List Record) → All (λ r. fit 0 r ≡ true) rs → UnfixedSays m false (first rs)
         go [] a = tt
-        go (r ∷ rs) a = absurd (omega (arith, (placed 0 r a.0).low))
+        go (r ∷ rs) a = absurd (omega (arith, low_fit 0 r a.0))
 
     pub collect_none : Fitted t → (items : List ℕ) → items ≡ [] → Collecting 0 0 items
     collect_none f items e = record {
@@ -169,7 +157,7 @@ module _ {d : Domain} (m : Meaning d) where
         go i l k (inr a) = absurd (k (mem_right is (subst (λ z. z ∈ (x ∷ [])) (let q : x ≡ i = omega arith in q) here)))
 
     next_high : Fitted t → (last x : ℕ) → Next last (Some x) → x ≤ 1_000_000
-    next_high f last x n = (answering x (t x) (f x) n.1).1
+    next_high f last x n = high_answer x None None (t x) (f x) n.1
 
     pub collect_rest : Fitted t → (last n x : ℕ) (items : List ℕ) → Collecting last n items → Next last (Some x) → Says false x → Collecting x n items
     collect_rest f last n x items w k s = record { all = w.all; wakes = wakes_rest last x w.all w.wakes k s; count = w.count; kept = w.kept; few = omega (arith, w.few, k.0); bound = next_high f last x k }

@@ -1,5 +1,6 @@
 -- A call has one answer and one outcome. Assumes nothing.
 use Rattle.std.proofs.Common.{◌≡◌, ℕ, zero, suc, ◌<◌, ◌≤◌, List, [], ◌∷◌, ◌++◌, length, Some, None, Ok, Err, Option, Result, sym, refl, ap, ◌∙◌, subst, inl, inr, arith}
+use Rattle.std.proofs.lemmas.Option.{none-some, same_Some}
 use mathlib.Core.Logic.Iff
 use Rattle.terms.specs.declared.Operand.{Operand}
 use Rattle.rules.specs.Books.{Goal, Book}
@@ -17,7 +18,7 @@ use Rattle.machine.specs.Refined as ref
 use Rattle.machine.specs.Refined.{meaning, Stands, StepSays, RunSays, VariableSays, PostSays, Says, Waits, GoodOperands, goal_of, operand_count, made_events, post_events}
 use Rattle.machine.specs.Statements.{Alike, OneAnswer, Exactly}
 use Rattle.machine.proofs.Meanings.{same_back, same_then, failed_same, made_same}
-use Rattle.machine.proofs.Unique.{none_some, some_inj, Split, split_one, over_not}
+use Rattle.machine.proofs.Unique.{Split, split_one, over_not}
 use Rattle.machine.proofs.Stepping.{one_step, same_theory}
 
 -- how a step ends a run, if it does
@@ -130,7 +131,7 @@ module _ {A B : Type 0} (T : Theory.Ghosts A) (P : PartnerTable.Ghosts B) where
   replied s t kind symbol xs x (ref.bad_count st l d n) = ((Err WrongCount, s.waiting), refl, stays s, inr (st, inr (l, inr (d, inl (n, refl)))))
   replied s t kind symbol xs x (ref.bad_operand c n) = ((Err WrongOperand, s.waiting), refl, stays s, inr (c.stands, inr (c.kinds, inr (c.declared, inr (c.counted, inl (n, refl))))))
   replied s t kind symbol xs x (ref.no_room c g l) = ((Err TooMany, s.waiting), refl, stays s, inr (c.stands, inr (c.kinds, inr (c.declared, inr (c.counted, inr (g, inl (l, refl)))))))
-  replied s t kind symbol xs x (ref.posts g c ps l e w) = ((Ok tt, s.waiting ++ (goal g ∷ [])), refl, w, inr (c.stands, inr (c.kinds, inr (c.declared, inr (c.counted, inr ((ps, λ n. none_some (sym n ∙ e)), inr (l, (g, e, refl))))))))
+  replied s t kind symbol xs x (ref.posts g c ps l e w) = ((Ok tt, s.waiting ++ (goal g ∷ [])), refl, w, inr (c.stands, inr (c.kinds, inr (c.declared, inr (c.counted, inr ((ps, λ n. none-some _ (sym n ∙ e)), inr (l, (g, e, refl))))))))
 
   judged_one : (s : Config A B) (kind symbol : ℕ) (xs : List Operand) (o p : Reply) → Judged s kind symbol xs o → Judged s kind symbol xs p → o ≡ p
   judged_one s kind symbol xs o p = split_one (λ f n. n f) both (split_one over_not both (split_one (λ a f. over_not (f a.0) a.1) both (split_one (λ n a. n a) both (split_one (λ n a. n a) both (split_one (λ a b. over_not b a) both goals)))))
@@ -139,7 +140,7 @@ module _ {A B : Type 0} (T : Theory.Ghosts A) (P : PartnerTable.Ghosts B) where
       both a b = a ∙ sym b
 
       goals : ((g : Goal Operand) × (goal_of kind symbol xs ≡ Some g) × (o ≡ (Ok tt, s.waiting ++ (goal g ∷ [])))) → ((g : Goal Operand) × (goal_of kind symbol xs ≡ Some g) × (p ≡ (Ok tt, s.waiting ++ (goal g ∷ [])))) → o ≡ p
-      goals a b = a.2 ∙ ap (λ (g : Goal Operand). (Ok tt, s.waiting ++ (goal g ∷ []))) (some_inj (sym a.1 ∙ b.1)) ∙ sym b.2
+      goals a b = a.2 ∙ ap (λ (g : Goal Operand). (Ok tt, s.waiting ++ (goal g ∷ []))) (same_Some _ _ (sym a.1 ∙ b.1)) ∙ sym b.2
 
   pub one_post : (s s' t u : Config A B) (kind symbol : ℕ) (xs : List Operand) (x y : Result (Unit {0}) PostRefusal) → Alike T P s s' → PostSays T s kind symbol xs x t → PostSays T s' kind symbol xs y u → (x ≡ y) × Alike T P t u
   one_post s s' t u kind symbol xs x y al a b = go (replied s t kind symbol xs x a) (replied s' u kind symbol xs y b)

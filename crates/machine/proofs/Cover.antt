@@ -4,6 +4,7 @@ use mathlib.Core.HLevel.{Discrete, ×_discrete}
 use mathlib.Core.List.{List-discrete}
 use native.Mathlib.Decide.{ℕ_discrete}
 use Rattle.std.proofs.lemmas.Bool.{both_ways, cases_eq, cases_Bool, ltb-false, not_from_false}
+use Rattle.std.proofs.lemmas.Option.{none-some, same_Some}
 use Rattle.terms.specs.declared.Operand.{Operand}
 use Rattle.terms.specs.Domains.{Domain, Valuation}
 use Rattle.rules.specs.Books.{Goal, Book, heads}
@@ -16,7 +17,7 @@ use Rattle.machine.specs.Sheets.{Entry, goal, wake, active}
 use Rattle.machine.specs.Refined.{removes_nothing, names_any, Wakes}
 use Rattle.machine.proofs.Members.{mem_cases, mem_none, mem_left, mem_right, mem_map, mem_kept, mem_dec, mem_place, get_or_mem, get_or_in_drop, names_none_of}
 use Rattle.machine.proofs.Places.{occurs_somewhere, place}
-use Rattle.machine.proofs.Unique.{none_some, some_inj, matches_length}
+use Rattle.machine.proofs.Unique.{matches_length}
 use Rattle.machine.proofs.Stores.{Agrees, matched_record, matches_at, survivors, survivor, survivors_agree, adding, unadded}
 use Rattle.machine.proofs.Guards.{fixed_before, kept_before, applies_before}
 
@@ -101,7 +102,7 @@ module _ (book : Book) where
 
   -- the symbol at the tuple's place h is that of the constraint there
   symbol_there : (store : Store) (hs tuple : List ℕ) → Matches store hs tuple → (h i : ℕ) → h < length tuple → get_or tuple h 0 ≡ i → (r : Record) → store i ≡ Some r → get_or hs h 0 ≡ r.symbol
-  symbol_there store hs tuple m h i l g r e = some_inj (sym (matches_at store hs tuple m h l) ∙ ap (λ x. symbol_of (store x)) g ∙ ap symbol_of e)
+  symbol_there store hs tuple m h i l g r e = same_Some _ _ (sym (matches_at store hs tuple m h l) ∙ ap (λ x. symbol_of (store x)) g ∙ ap symbol_of e)
 
   module _ {d : Domain} where
     -- a telling wakes a constraint of the tuple, or all its variables were fixed before
@@ -150,10 +151,10 @@ module _ (book : Book) where
 
     -- a constraint that does not live covers nothing
     pub late_covers : (m : Meaning d) (i : ℕ) (rest : List Entry) (hist : List Firing) (store : Store) → store i ≡ None → Covers book m (wake i ∷ rest) hist store → Covers book m rest hist store
-    late_covers m i rest hist store none cov stands k tuple a b ap = covered_top (wake i) rest rest hist k tuple (λ x y. y) (λ j c e. let q : j ≡ i = cc in let r = matched_record store (heads (rule_at book k)) tuple ap.matches c in absurd (none_some (sym none ∙ mathlib.Core.Path.ap store (sym q) ∙ r.1))) (λ i' j l h c g e p o z. absurd (active_wake e)) (cov stands k tuple a b ap)
+    late_covers m i rest hist store none cov stands k tuple a b ap = covered_top (wake i) rest rest hist k tuple (λ x y. y) (λ j c e. let q : j ≡ i = cc in let r = matched_record store (heads (rule_at book k)) tuple ap.matches c in absurd (none-some _ (sym none ∙ mathlib.Core.Path.ap store (sym q) ∙ r.1))) (λ i' j l h c g e p o z. absurd (active_wake e)) (cov stands k tuple a b ap)
 
     pub dead_covers : (m : Meaning d) (i j : ℕ) (rest : List Entry) (hist : List Firing) (store : Store) → store i ≡ None → Covers book m (active i j ∷ rest) hist store → Covers book m rest hist store
-    dead_covers m i j rest hist store none cov stands k tuple a b ap = covered_top (active i j) rest rest hist k tuple (λ x y. y) (λ i' c e. absurd (wake_active e)) (λ i' j' l h c g e p o z. let q : i' ≡ i = cc in let r = matched_record store (heads (rule_at book k)) tuple ap.matches (get_or_mem tuple h 0 c) in absurd (none_some (sym none ∙ mathlib.Core.Path.ap store (sym (g ∙ q)) ∙ r.1))) (cov stands k tuple a b ap)
+    dead_covers m i j rest hist store none cov stands k tuple a b ap = covered_top (active i j) rest rest hist k tuple (λ x y. y) (λ i' c e. absurd (wake_active e)) (λ i' j' l h c g e p o z. let q : i' ≡ i = cc in let r = matched_record store (heads (rule_at book k)) tuple ap.matches (get_or_mem tuple h 0 c) in absurd (none-some _ (sym none ∙ mathlib.Core.Path.ap store (sym (g ∙ q)) ∙ r.1))) (cov stands k tuple a b ap)
 
     -- nor does one beyond its occurrences
     pub over_covers : (m : Meaning d) (i j : ℕ) (rest : List Entry) (hist : List Firing) (store : Store) (r : Record) → store i ≡ Some r → ((1 ≤ j) × (j ≤ length (occurrences book r.symbol)) → ⊥) → Covers book m (active i j ∷ rest) hist store → Covers book m rest hist store

@@ -2,6 +2,7 @@
 use Rattle.std.proofs.Common.{◌≡◌, ℕ, suc, ◌+◌, ◌-◌, ◌<◌, ◌≤◌, Bool, true, false, cond, ltb, ◌⊎◌, List, [], ◌∷◌, ◌++◌, map, length, get_or, Some, None, Ok, Option, sym, refl, ap, ◌∙◌, subst, inl, inr, arith}
 use lib.ListN.{length-map}
 use Rattle.std.proofs.lemmas.Bool.{ltb-false}
+use Rattle.std.proofs.lemmas.Option.{none-some}
 use Rattle.terms.specs.declared.Operand.{Operand}
 use Rattle.terms.specs.declared.Operand.TheVariants.{Value, Variable}
 use Rattle.terms.specs.declared.Term.{Term}
@@ -26,7 +27,6 @@ use Rattle.machine.specs.Refined as ref
 use Rattle.machine.specs.Refined.{meaning, living, Waits, Turn, Postable, Opened, StepSays, VariableSays, PostSays}
 use Rattle.machine.proofs.Members.{mem_cases, mem_none, mem_append, mem_map_back, all_from, all_mem, get_or_mem}
 use Rattle.machine.proofs.Places.{occurs_bounds}
-use Rattle.machine.proofs.Unique.{none_some}
 use Rattle.machine.proofs.Stores.{survivor, added_cases, living_with, living_without, slot_all}
 use Rattle.machine.proofs.Guards.{zero_is_value}
 use Rattle.machine.proofs.Cover.{goal_wake, goal_active}
@@ -135,7 +135,7 @@ module _ {A B : Type 0} (T : Theory.Ghosts A) (P : PartnerTable.Ghosts B) where
   pub good_opened : (book : Book) (s : Config A B) → Valid book → Opened T P book s → Good T P s
   good_opened book s valid o = record {
     valid = subst Valid (sym o.opened) valid;
-    records = λ i r e. absurd (none_some (sym (ap (λ (t : Table). first (t i)) o.empty) ∙ e));
+    records = λ i r e. absurd (none-some _ (sym (ap (λ (t : Table). first (t i)) o.empty) ∙ e));
     goals = λ g m. absurd (mem_none (subst (λ (z : List Entry). goal g ∈ z) o.waiting m));
   }
 

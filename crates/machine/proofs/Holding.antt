@@ -3,6 +3,7 @@ use Rattle.std.proofs.Common.{◌≡◌, ℕ, zero, suc, ◌+◌, ◌-◌, ◌<�
 use lib.ListN.{length-map, get_or-map}
 use Rattle.std.proofs.lemmas.List.{map-append, take_at, drop_at, get_or_default, get_or_append_left, get_or-append_right}
 use Rattle.std.proofs.lemmas.Bool.{cases_lt, cond-true, cond-false, cond_both, lt-ltb, le-ltb}
+use Rattle.std.proofs.lemmas.Option.{same_Some}
 use Rattle.terms.specs.declared.Operand.{Operand}
 use Rattle.terms.specs.declared.Operand.TheVariants.{Value, Variable}
 use Rattle.terms.specs.declared.Term.{Term}
@@ -21,7 +22,6 @@ use Rattle.machine.specs.Matching.{Store, arguments_of, fill, fill_primitive, fi
 use Rattle.machine.specs.Readings.{Reading, at_slots, GuardHolds, GoalHolds, RecordHolds, ItemHolds, HeadsHold, ObeysRule}
 use Rattle.machine.proofs.Members.{all_map, all_mem, all_from, all_get_d}
 use Rattle.machine.proofs.Stores.{named}
-use Rattle.machine.proofs.Unique.{some_inj}
 use Rattle.machine.specs.Refined.{operand_count, goal_of}
 use Rattle.machine.proofs.Good.{GoodRecord, GoodGoal}
 use Rattle.machine.proofs.Postings.{PostingParts, posting_parts}
@@ -180,7 +180,7 @@ module _ (d : Domain) (book : Book) (made : ℕ) (store : Store) (good : (i : �
           long = length-map r.arguments (worth d w) ∙ whole i r e ∙ ap (λ z. get_or book.arities z 0) q
 
           to : HeadsHold d R book.arities (c ∷ cs) (worths w (i ∷ is)) → All (λ i. (r : Record) → store i ≡ Some r → RecordHolds d R w r) (i ∷ is)
-          to h = let p = subst (HeadsHold d R book.arities (c ∷ cs)) shape h in (λ x f. subst (RecordHolds d R w) (some_inj (sym e ∙ f)) (subst (λ z. R z a ≡ true) (sym q) (subst (λ l. R c l ≡ true) (take_at a (worths w is) n long) p.0)), ih.0 (subst (HeadsHold d R book.arities cs) (drop_at a (worths w is) n long) p.1))
+          to h = let p = subst (HeadsHold d R book.arities (c ∷ cs)) shape h in (λ x f. subst (RecordHolds d R w) (same_Some _ _ (sym e ∙ f)) (subst (λ z. R z a ≡ true) (sym q) (subst (λ l. R c l ≡ true) (take_at a (worths w is) n long) p.0)), ih.0 (subst (HeadsHold d R book.arities cs) (drop_at a (worths w is) n long) p.1))
 
           from : All (λ i. (r : Record) → store i ≡ Some r → RecordHolds d R w r) (i ∷ is) → HeadsHold d R book.arities (c ∷ cs) (worths w (i ∷ is))
           from h = subst (HeadsHold d R book.arities (c ∷ cs)) (sym shape) (subst (λ l. R c l ≡ true) (sym (take_at a (worths w is) n long)) (subst (λ z. R z a ≡ true) q (h.0 r e)), subst (HeadsHold d R book.arities cs) (sym (drop_at a (worths w is) n long)) (ih.1 h.1))

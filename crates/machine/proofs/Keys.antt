@@ -4,6 +4,7 @@ use lib.IntN.{ℤ_discrete}
 use lib.Signed.{le_z}
 use Rattle.std.specs.Option.{option_or}
 use Rattle.std.proofs.lemmas.Bool.{eqb-true, ltb-true, lt-ltb, le-ltb, le-leb, and_from, both_ways}
+use Rattle.std.proofs.lemmas.Option.{none-some, same_Some}
 use Rattle.terms.specs.declared.Operand.{Operand}
 use Rattle.terms.specs.declared.Operand.TheVariants.{Value, Variable}
 use Rattle.terms.specs.declared.Term.{Term}
@@ -22,7 +23,7 @@ use Rattle.table.specs.Records.{Record, argument_of}
 use Rattle.machine.specs.Matching.{Store, arguments_of, head_slot, fill, fill_primitive}
 use Rattle.machine.specs.Refined.{meaning, living, rule_of}
 use Rattle.machine.specs.Keys.{Filling, filled_argument, partial_slot, value_of, value_in, is_slot, tied_to, key_from, key_at, Agrees, KeyedPartners}
-use Rattle.machine.proofs.Unique.{none_some, some_inj, matches_length}
+use Rattle.machine.proofs.Unique.{matches_length}
 
 -- two values that the theory has the same are the same, while it stands
 pub values_agree : {d : Domain} (m : Meaning d) → (Failed m → ⊥) → (a b : ℤ) → Follows m (Same (Value a) (Value b)) → a ≡ b
@@ -47,22 +48,22 @@ keyed (Some v) (Value w ∷ xs) f = same_key v w (f v w refl refl)
 keyed (Some v) (Variable x ∷ xs) f = refl
 
 nth_get_or : {A : Type 0} (xs : List A) (k : ℕ) (d x : A) → nth xs k ≡ Some x → get_or xs k d ≡ x
-nth_get_or [] k d x e = absurd (none_some e)
-nth_get_or (y ∷ xs) zero d x e = some_inj e
+nth_get_or [] k d x e = absurd (none-some _ e)
+nth_get_or (y ∷ xs) zero d x e = same_Some _ _ e
 nth_get_or (y ∷ xs) (suc k) d x e = nth_get_or xs k d x e
 
 module _ (arities : List ℕ) (store : Store) where
   argument_is : (o : Option Record) (k : ℕ) (x : Operand) → argument_of o k ≡ Some x → get_or (arguments_of o) k (Value (pos 0)) ≡ x
-  argument_is None k x e = absurd (none_some e)
+  argument_is None k x e = absurd (none-some _ e)
   argument_is (Some r) k x e = nth_get_or r.arguments k (Value (pos 0)) x e
 
   filled_is : (f : Option ℕ) (i k : ℕ) (x : Operand) → ((j : ℕ) → f ≡ Some j → i ≡ j) → filled_argument store f k ≡ Some x → get_or (arguments_of (store i)) k (Value (pos 0)) ≡ x
-  filled_is None i k x a e = absurd (none_some e)
+  filled_is None i k x a e = absurd (none-some _ e)
   filled_is (Some j) i k x a e = ap (λ (z : ℕ). get_or (arguments_of (store z)) k (Value (pos 0))) (a j refl) ∙ argument_is (store j) k x e
 
   -- what is known of a slot from a part of the tuple is what the whole has there
   pub partial_is : (hs : List ℕ) (f : Filling) (is : List ℕ) → length is ≡ length hs → Agrees f is → (k : ℕ) (x : Operand) → partial_slot arities store hs f k ≡ Some x → head_slot arities store hs is k ≡ x
-  partial_is [] f is l a k x e = absurd (none_some e)
+  partial_is [] f is l a k x e = absurd (none-some _ e)
   partial_is (c ∷ cs) f [] l a k x e = absurd (omega arith)
   partial_is (c ∷ cs) f (i ∷ is) l a k x e = go (ltb k (get_or arities c 0)) e (λ q. partial_is cs (λ p. f (suc p)) is (omega arith) (λ p j. a (suc p) j) (k - get_or arities c 0) x q)
     where
@@ -79,12 +80,12 @@ module _ (arities : List ℕ) (store : Store) where
 
 module _ {d : Domain} (m : Meaning d) (stands : Failed m → ⊥) (at : ℕ → Option Operand) (full : ℕ → Operand) (agree : (k : ℕ) (x : Operand) → at k ≡ Some x → full k ≡ x) (slot : ℕ) (w : ℤ) (here : full slot ≡ Value w) where
   value_is : (o : Option Operand) (v : ℤ) → value_of o ≡ Some v → o ≡ Some (Value v)
-  value_is None v e = absurd (none_some e)
-  value_is (Some (Value n)) v e = ap (λ z. Some (Value z)) (some_inj e)
-  value_is (Some (Variable x)) v e = absurd (none_some e)
+  value_is None v e = absurd (none-some _ e)
+  value_is (Some (Value n)) v e = ap (λ z. Some (Value z)) (same_Some _ _ e)
+  value_is (Some (Variable x)) v e = absurd (none-some _ e)
 
   value_fills : (t : Term) (v : ℤ) → value_in at t ≡ Some v → fill full t ≡ Value v
-  value_fills (term.Value n) v e = ap (λ z. Value z) (some_inj e)
+  value_fills (term.Value n) v e = ap (λ z. Value z) (same_Some _ _ e)
   value_fills (term.Slot k) v e = agree k (Value v) (value_is (at k) v e)
 
   slot_fills : (t : Term) → is_slot slot t ≡ true → fill full t ≡ Value w
@@ -103,17 +104,17 @@ module _ {d : Domain} (m : Meaning d) (stands : Failed m → ⊥) (at : ℕ → 
     where
       second : (c : Bool) → is_slot slot b ≡ c → cond c (value_in at a) None ≡ Some v → w ≡ v
       second true z q = other_way a b v f z q
-      second false z q = absurd (none_some q)
+      second false z q = absurd (none-some _ q)
 
       go : (c : Bool) → is_slot slot a ≡ c → (o : Option ℤ) → value_in at b ≡ o → option_or (cond c o None) (cond (is_slot slot b) (value_in at a) None) ≡ Some v → w ≡ v
       go true z (Some u) y q = one_way a b v f z (y ∙ q)
       go true z None y q = second (is_slot slot b) refl q
       go false z o y q = second (is_slot slot b) refl q
-  tied_is (Least a n) v f e = absurd (none_some e)
-  tied_is (Most a n) v f e = absurd (none_some e)
+  tied_is (Least a n) v f e = absurd (none-some _ e)
+  tied_is (Most a n) v f e = absurd (none-some _ e)
 
   pub key_is_there : (gs : List (Primitive Term)) (v : ℤ) → All (λ g. Follows m (fill_primitive full g)) gs → key_from at slot gs ≡ Some v → w ≡ v
-  key_is_there [] v f e = absurd (none_some e)
+  key_is_there [] v f e = absurd (none-some _ e)
   key_is_there (g ∷ gs) v f e = go (tied_to at slot g) refl e (λ q. key_is_there gs v f.1 q)
     where
       go : (o : Option ℤ) → tied_to at slot g ≡ o → option_or o (key_from at slot gs) ≡ Some v → (key_from at slot gs ≡ Some v → w ≡ v) → w ≡ v
@@ -129,4 +130,4 @@ module _ {A B : Type 0} (T : Theory.Ghosts A) (P : PartnerTable.Ghosts B) where
 
       go : (v w : ℤ) → get_or (arguments_of (living P s (get_or tuple n 0))) 0 (Value (pos 0)) ≡ Value w → (b : Bool) → ltb 0 (get_or s.book.arities (get_or (heads (rule_of s k)) n 0) 0) ≡ b → cond b (key_from (partial_slot s.book.arities (living P s) (heads (rule_of s k)) filling) (slot_count s.book.arities (take n (heads (rule_of s k)))) (rule_of s k).guards) None ≡ Some v → w ≡ v
       go v w q true z e = key_is_there (meaning T s) stands (partial_slot s.book.arities (living P s) (heads (rule_of s k)) filling) (head_slot s.book.arities (living P s) (heads (rule_of s k)) tuple) (partial_is s.book.arities (living P s) (heads (rule_of s k)) filling tuple long a) (slot_count s.book.arities (take n (heads (rule_of s k)))) w (first_slot s.book.arities (living P s) (heads (rule_of s k)) tuple n long l (ltb-true 0 (get_or s.book.arities (get_or (heads (rule_of s k)) n 0) 0) z) ∙ q) (rule_of s k).guards v f.applies.guarded e
-      go v w q false z e = absurd (none_some e)
+      go v w q false z e = absurd (none-some _ e)

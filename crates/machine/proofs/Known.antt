@@ -1,5 +1,6 @@
 -- Runs from a state of which everything is known. Assumes nothing.
 use Rattle.std.proofs.Common.{◌≡◌, ℕ, suc, ◌+◌, List, [], ◌∷◌, ◌++◌, pos, None, sym, refl, ap, ◌∙◌, subst, inr, arith}
+use Rattle.std.proofs.lemmas.Option.{same_Some}
 use lib.Signed.{le_z_yes}
 use Rattle.terms.specs.Domains.{Domain}
 use Rattle.rules.specs.Books.{add, Book}
@@ -17,7 +18,7 @@ use Rattle.machine.specs.Refined.{meaning, Stands, StepSays, RunSays, Opened}
 use Rattle.machine.specs.Samples.{PostedA}
 use Rattle.machine.proofs.Meanings.{same_back, failed_same}
 use Rattle.machine.proofs.Done.{step_done, full_not}
-use Rattle.machine.proofs.Unique.{some_inj, Change, kept, told_one, made_some, Outcome, Item, Decided, decided_one}
+use Rattle.machine.proofs.Unique.{Change, kept, told_one, made_some, Outcome, Item, Decided, decided_one}
 use Rattle.machine.proofs.Stepping.{Changed, Fulfils, At, Outcomes, outcomes, same_theory}
 use Rattle.machine.proofs.Calling.{ending, Tail, Leading, leading}
 
@@ -95,4 +96,4 @@ module _ {A B : Type 0} (T : Theory.Ghosts A) (P : PartnerTable.Ghosts B) where
 
   -- and one where a was posted
   pub posted_is : (book : Book) (w : List Entry) (h : List Firing) (n : ℕ) (q : Table) (s t : Config A B) → Is book w h n q s → PostedA T P s t → Is book (w ++ (goal (add 0 []) ∷ [])) h n q t
-  posted_is book w h n q s t is (es, ref.at_post _ _ _ _ (ref.posts g c ps l e y)) = record { book_is = y.becomes.book ∙ is.book_is; waiting_is = y.becomes.waiting ∙ (λ i. is.waiting_is i ++ (goal (sym (some_inj e) i) ∷ [])); history_is = y.becomes.history ∙ is.history_is; next_is = y.becomes.next ∙ is.next_is; stands_is = λ z. is.stands_is (failed_same (meaning T t) (meaning T s) (same_back (meaning T s) (meaning T t) (same_theory T P s t y.theory)) z); made_is = (same_theory T P s t y.theory).0 ∙ is.made_is; table_is = ap P.records y.table ∙ is.table_is }
+  posted_is book w h n q s t is (es, ref.at_post _ _ _ _ (ref.posts g c ps l e y)) = record { book_is = y.becomes.book ∙ is.book_is; waiting_is = y.becomes.waiting ∙ (λ i. is.waiting_is i ++ (goal (sym (same_Some _ _ e) i) ∷ [])); history_is = y.becomes.history ∙ is.history_is; next_is = y.becomes.next ∙ is.next_is; stands_is = λ z. is.stands_is (failed_same (meaning T t) (meaning T s) (same_back (meaning T s) (meaning T t) (same_theory T P s t y.theory)) z); made_is = (same_theory T P s t y.theory).0 ∙ is.made_is; table_is = ap P.records y.table ∙ is.table_is }

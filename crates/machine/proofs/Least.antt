@@ -5,6 +5,7 @@ use mathlib.Core.HLevel.{Discrete, ×_discrete}
 use mathlib.Core.List.{List-discrete}
 use native.Mathlib.Decide.{ℕ_discrete}
 use Rattle.std.proofs.lemmas.Bool.{cases_lt, eq-eqb, ne_eqb}
+use Rattle.std.proofs.lemmas.Option.{none-some, same_Some}
 use Rattle.terms.specs.declared.Operand.{Operand}
 use Rattle.terms.specs.declared.Primitive.{Primitive}
 use Rattle.terms.specs.declared.Term.{Term}
@@ -19,9 +20,10 @@ use Rattle.machine.specs.Matching.{Store, Firing, Matches, fill_primitive, head_
 use Rattle.machine.specs.Occurrences.{positions, search_order, sought}
 use Rattle.machine.specs.Sheets.{Config}
 use Rattle.machine.specs.Refined.{meaning, living, rule_of, Fits, FirstFit, NoneFits, removes_nothing}
+use Rattle.machine.proofs.Stores.{matched_record}
 use Rattle.machine.proofs.Members.{mem_cases, mem_none, mem_dec, all_from, here_at}
 use Rattle.machine.proofs.Meanings.{dec_both}
-use Rattle.machine.proofs.Unique.{none_some, some_inj, matches_length}
+use Rattle.machine.proofs.Unique.{matches_length}
 
 pub dec_not : {A : Type 0} → Dec A → Dec (A → ⊥)
 dec_not (yes a) = no (λ n. n a)
@@ -165,12 +167,12 @@ in_between (suc h) i (o ∷ os) {x} m = go (λ z. in_between h i os z) (mem_case
     go ih (inr z) = there (ih z)
 
 dec_symbol : (o : Option Record) (s : ℕ) → Dec (symbol_of o ≡ Some s)
-dec_symbol None s = no none_some
+dec_symbol None s = no (none-some _)
 dec_symbol (Some r) s = go (ℕ_discrete r.symbol s)
   where
     go : Dec (r.symbol ≡ s) → Dec (Some r.symbol ≡ Some s)
     go (yes e) = yes (ap Some e)
-    go (no n) = no (λ e. n (some_inj e))
+    go (no n) = no (λ e. n (same_Some _ _ e))
 
 dec_matches : (store : Store) (hs is : List ℕ) → Dec (Matches store hs is)
 dec_matches store [] [] = yes tt
@@ -184,21 +186,6 @@ firing_discrete = ×_discrete ℕ_discrete (List-discrete ℕ_discrete)
 dec_distinct : (xs : List ℕ) → Dec (Distinct xs)
 dec_distinct [] = yes tt
 dec_distinct (x ∷ xs) = dec_both (dec_not (dec_mem ℕ_discrete x xs)) (dec_distinct xs)
-
--- each matched identifier lives
-matched : (store : Store) (hs is : List ℕ) → Matches store hs is → {i : ℕ} → i ∈ is → (r : Record) × (store i ≡ Some r)
-matched store [] [] m k = absurd (mem_none k)
-matched store [] (j ∷ is) m k = absurd m
-matched store (s ∷ ss) [] m k = absurd m
-matched store (s ∷ ss) (j ∷ is) m {i} k = go (λ z. matched store ss is m.1 z) (mem_cases k)
-  where
-    some : (o : Option Record) → symbol_of o ≡ Some s → (r : Record) × (o ≡ Some r)
-    some None e = absurd (none_some e)
-    some (Some r) e = (r, refl)
-
-    go : (i ∈ is → (r : Record) × (store i ≡ Some r)) → (i ≡ j) ⊎ (i ∈ is) → (r : Record) × (store i ≡ Some r)
-    go ih (inl e) = subst (λ (z : ℕ). (r : Record) × (store z ≡ Some r)) (sym e) (some (store j) m.0)
-    go ih (inr z) = ih z
 
 module _ {A B : Type 0} (T : Theory.Ghosts A) (P : PartnerTable.Ghosts B) (ask : (x : A) (p : Primitive Operand) → Dec (Follows (T.means x) p)) where
   dec_fits : (s : Config A B) (k h i : ℕ) (tuple : List ℕ) → Dec (Fits T P s k h i tuple)
@@ -229,7 +216,7 @@ module _ {A B : Type 0} (T : Theory.Ghosts A) (P : PartnerTable.Ghosts B) (ask :
       order tuple f = sought_others (length (heads (rule_of s k))) h tuple (size_of tuple f)
 
       shape : (os : List ℕ) → Passes os → (length os ≡ length (heads (rule_of s k)) - 1) × All (λ x. x ∈ hs) os
-      shape os f = (omega (arith, size_of (between h i os) f, length_between h i os), all_from (λ x. x ∈ hs) os (λ x m. let r = matched (living P s) (heads (rule_of s k)) (between h i os) f.applies.matches (in_between h i os m) in lives x r.0 r.1))
+      shape os f = (omega (arith, size_of (between h i os) f, length_between h i os), all_from (λ x. x ∈ hs) os (λ x m. let r = matched_record (living P s) (heads (rule_of s k)) (between h i os) f.applies.matches (in_between h i os m) in lives x r.0 r.1))
 
       again : (tuple : List ℕ) → Fits T P s k h i tuple → Passes (others h tuple)
       again tuple f = subst (Fits T P s k h i) (sym (between_others h i tuple (subst (λ (z : ℕ). h < z) (sym (size_of tuple f)) l) f.at)) f

@@ -1,3 +1,4 @@
+pub mod Backwards
 pub mod Members
 pub mod Places
 pub mod Orders

@@ -2,6 +2,7 @@
 use Rattle.std.proofs.Common.{◌≡◌, ℕ, suc, ◌<◌, ◌≤◌, Bool, true, false, cond, not, eqb, ◌⊎◌, List, [], ◌∷◌, ◌++◌, map, length, Some, Ok, filter, sym, refl, ap, ◌∙◌, subst, inl, inr, append-nil, arith, length-append}
 use lib.ListN.{length-map}
 use Rattle.std.proofs.lemmas.Bool.{both_ways, eqb-true, eq-eqb}
+use Rattle.std.proofs.lemmas.Option.{none-some}
 use Rattle.terms.specs.declared.Operand.{Operand}
 use Rattle.terms.specs.declared.Primitive.{Primitive}
 use Rattle.rules.specs.Books.{Goal, Book}
@@ -17,7 +18,6 @@ use Rattle.machine.specs.Refined as ref
 use Rattle.machine.specs.Refined.{meaning, living, rule_of, removes_nothing, names_any, Becomes, Waits, HistoryFull, Opened, StepSays, VariableSays, PostSays}
 use Rattle.machine.specs.Statements.{accepted, variables_of, given, Within}
 use Rattle.machine.proofs.Members.{mem_cases, mem_none, mem_left, mem_right, mem_append, here_at}
-use Rattle.machine.proofs.Unique.{none_some}
 use Rattle.machine.proofs.Stores.{added_cases, living_with}
 use Rattle.machine.proofs.Trails.{Trail, accepted_more, given_more}
 use Rattle.machine.proofs.Trails as trail
@@ -60,7 +60,7 @@ module _ {A B : Type 0} (T : Theory.Ghosts A) (P : PartnerTable.Ghosts B) where
     to_last = omega (arith, o.next);
     once = tt;
     below = λ i m. absurd (mem_none m);
-    lives = λ i r e. absurd (none_some (sym (ap (λ (t : Table). first (t i)) o.empty) ∙ e));
+    lives = λ i r e. absurd (none-some _ (sym (ap (λ (t : Table). first (t i)) o.empty) ∙ e));
     one_each = λ i. subst (λ (t : Table). length (t i) ≤ 1) (sym o.empty) (omega arith);
     variables = o.posted;
     made = λ x m. absurd (mem_none (subst (λ l. x ∈ l) o.posted m));
@@ -89,7 +89,7 @@ module _ {A B : Type 0} (T : Theory.Ghosts A) (P : PartnerTable.Ghosts B) where
 
       lived : (i : ℕ) (r : Record) → living P t i ≡ Some r → (P.records t.table i ≡ P.records s.table i) ⊎ (P.records t.table i ≡ []) → i ∈ given es
       lived i r e (inl q) = w.lives i r (ap first (sym q) ∙ e)
-      lived i r e (inr q) = absurd (none_some (sym (ap first q) ∙ e))
+      lived i r e (inr q) = absurd (none-some _ (sym (ap first q) ∙ e))
 
       short : (i : ℕ) → (P.records t.table i ≡ P.records s.table i) ⊎ (P.records t.table i ≡ []) → length (P.records t.table i) ≤ 1
       short i (inl q) = subst (λ z. length z ≤ 1) (sym q) (w.one_each i)

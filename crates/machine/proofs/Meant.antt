@@ -2,6 +2,7 @@
 use Rattle.std.proofs.Common.{◌≡◌, ℕ, suc, ◌+◌, ◌-◌, ◌<◌, ◌≤◌, Bool, true, false, cond, eqb, ltb, ◌↔◌, ◌⊎◌, inl, inr, List, [], ◌∷◌, ◌++◌, map, length, Some, None, Ok, sym, refl, ap, ◌∙◌, subst, append-nil, arith}
 use mathlib.Core.Logic.Iff
 use Rattle.std.proofs.lemmas.Bool.{eqb-true, eq-eqb, cond-true, cond-false}
+use Rattle.std.proofs.lemmas.Option.{none-some, same_Some}
 use Rattle.terms.specs.declared.Operand.{Operand}
 use Rattle.terms.specs.declared.Operand.TheVariants.{Value, Variable}
 use Rattle.terms.specs.declared.Primitive.{Primitive}
@@ -24,7 +25,6 @@ use Rattle.machine.specs.Abstract.{pending_of}
 use Rattle.machine.specs.Readings.{Reading, Obeys, ObeysRule, GoalHolds, RecordHolds}
 use Rattle.machine.specs.Statements.{accepted, postings, Held}
 use Rattle.machine.proofs.Members.{mem_cases, mem_none, mem_left, mem_append, get_or_mem, all_map, all_append, all_parts, all_mem, all_from, memberb_in, memberb_not}
-use Rattle.machine.proofs.Unique.{none_some, some_inj}
 use Rattle.machine.proofs.Trails.{accepted_more, accepted_step}
 use Rattle.machine.proofs.Stores.{living_with, living_without}
 use Rattle.machine.proofs.Good.{Good, rule_valid, turn_bounds}
@@ -66,7 +66,7 @@ module _ {A B : Type 0} (T : Theory.Ghosts A) (P : PartnerTable.Ghosts B) where
   still_alive s good R w u f a i r e = good_same T.domain R s.book (meaning T s).made w u f (add r.symbol r.arguments) (good.records i r e) (a i r e)
 
   pub meant_opened : (book : Book) (s : Config A B) → Opened T P book s → MeantAt [] s
-  meant_opened book s o R ob v sv = (λ a. (v, record { agrees = λ x e. refl; admitted = (o.clear.1 v).1 sv; pending = subst (λ w. All (GoalHolds T.domain R v) (pending_of w)) (sym o.waiting) tt; alive = λ i r e. absurd (none_some (sym (ap (λ q. first (q i)) o.empty) ∙ e)) }), λ h. tt)
+  meant_opened book s o R ob v sv = (λ a. (v, record { agrees = λ x e. refl; admitted = (o.clear.1 v).1 sv; pending = subst (λ w. All (GoalHolds T.domain R v) (pending_of w)) (sym o.waiting) tt; alive = λ i r e. absurd (none-some _ (sym (ap (λ q. first (q i)) o.empty) ∙ e)) }), λ h. tt)
 
   -- a variable more, which has the value that it was given
   made_held : (s t : Config A B) → Lawful T.means T.capacity → Good T P s → ((y : ℕ) → y ∈ s.posted → y < (meaning T s).made) → Made (meaning T s) 1 (meaning T t) → t.table ≡ s.table → t.waiting ≡ s.waiting → t.posted ≡ s.posted ++ ((meaning T s).made ∷ []) → HeldToo s t
@@ -118,7 +118,7 @@ module _ {A B : Type 0} (T : Theory.Ghosts A) (P : PartnerTable.Ghosts B) where
       more = ap postings (accepted_more es (took (posted_goal g) ∷ [])) ∙ postings_more (accepted es) (posted_goal g ∷ [])
 
       pends : pending_of t.waiting ≡ pending_of s.waiting ++ (g ∷ [])
-      pends = ap pending_of w.becomes.waiting ∙ pending_append s.waiting (goal f ∷ []) ∙ ap (λ z. pending_of s.waiting ++ (z ∷ [])) (some_inj (sym e ∙ e'))
+      pends = ap pending_of w.becomes.waiting ∙ pending_append s.waiting (goal f ∷ []) ∙ ap (λ z. pending_of s.waiting ++ (z ∷ [])) (same_Some _ _ (sym e ∙ e'))
 
       same : (u : Valuation T.domain) → ((x : ℕ) → x ∈ s.posted → u x ≡ v x) → EachOperand (λ a. worth T.domain u a ≡ worth T.domain v a) g
       same u h = posting_operands (λ a. worth T.domain u a ≡ worth T.domain v a) s.book kind symbol xs g counted.declared counted.counted (all_map (Postable s.posted) (λ a. worth T.domain u a ≡ worth T.domain v a) (posted_same s v u h) xs good) e'
@@ -176,7 +176,7 @@ module _ {A B : Type 0} (T : Theory.Ghosts A) (P : PartnerTable.Ghosts B) where
           q = subst (λ l. All (GoalHolds T.domain R h.0) (pending_of l)) top h.1.pending
 
           each : (i : ℕ) (r : Record) (b : Bool) → cond b (Some (recorded c xs)) (living P s i) ≡ Some r → RecordHolds T.domain R h.0 r
-          each i r true e = subst (RecordHolds T.domain R h.0) (some_inj e) q.0
+          each i r true e = subst (RecordHolds T.domain R h.0) (same_Some _ _ e) q.0
           each i r false e = h.1.alive i r e
 
       from : SomeHeld t R v → SomeHeld s R v
@@ -186,7 +186,7 @@ module _ {A B : Type 0} (T : Theory.Ghosts A) (P : PartnerTable.Ghosts B) where
           new = h.1.alive s.next (recorded c xs) (lives s.next ∙ cond-true (eqb s.next s.next) (Some (recorded c xs)) (living P s s.next) (eq-eqb s.next s.next refl))
 
           each : (i : ℕ) (r : Record) (b : Bool) → eqb s.next i ≡ b → living P s i ≡ Some r → RecordHolds T.domain R h.0 r
-          each i r true e k = absurd (none_some (sym (ap first fresh) ∙ ap (living P s) (eqb-true s.next i e) ∙ k))
+          each i r true e k = absurd (none-some _ (sym (ap first fresh) ∙ ap (living P s) (eqb-true s.next i e) ∙ k))
           each i r false e k = h.1.alive i r (lives i ∙ cond-false (eqb s.next i) (Some (recorded c xs)) (living P s i) e ∙ k)
 
   -- a rule is applied
@@ -236,7 +236,7 @@ module _ {A B : Type 0} (T : Theory.Ghosts A) (P : PartnerTable.Ghosts B) where
               keeps = put_below T.domain y.0 (meaning T s).made f.0
 
               each : (x : ℕ) (z : Record) (b : Bool) → cond b None (living P s x) ≡ Some z → living P s x ≡ Some z
-              each x z true e = absurd (none_some e)
+              each x z true e = absurd (none-some _ e)
               each x z false e = e
 
       from : SomeHeld t R v → SomeHeld s R v

@@ -1,6 +1,7 @@
 -- What the abstract machine has applied: the history is what still lives of it, and it does not apply again. Assumes nothing.
 use Rattle.std.proofs.Common.{◌≡◌, ℕ, ◌<◌, Bool, true, false, not, ◌⊎◌, ◌↔◌, List, [], ◌∷◌, ◌++◌, length, is_some, Some, None, filter, Option, sym, refl, ap, ◌∙◌, subst, inl, inr, arith}
 use Rattle.std.proofs.lemmas.Bool.{both_ways, not-true, not_from_false}
+use Rattle.std.proofs.lemmas.Option.{none-some}
 use Rattle.terms.specs.declared.Operand.{Operand}
 use Rattle.rules.specs.Books.{Goal, Rule, Book, heads}
 use Rattle.table.specs.Lists.{is_none}
@@ -10,7 +11,6 @@ use Rattle.machine.specs.Matching.{Store, Firing, Matches, rule_at, gone}
 use Rattle.machine.specs.Refined.{removes_nothing, names_any}
 use Rattle.machine.specs.Abstract.{State, added_after, applied_after, AllLive}
 use Rattle.machine.proofs.Members.{mem_cases, mem_none, here_at, mem_left, mem_right, mem_append, mem_kept, mem_kept_back, mem_drop, names_none, names_none_of, all_mem, all_from}
-use Rattle.machine.proofs.Unique.{none_some}
 use Rattle.machine.proofs.Stores.{matched_record, survivors, survivor, survives, perishes, adding, unadded}
 use Rattle.machine.proofs.Slots.{parts_of}
 use Rattle.machine.proofs.Cover.{firing, remembered}
@@ -57,7 +57,7 @@ someone_gone store r tuple m e = let s = parts_of store r.kept r.removed tuple m
     go : (cs : List ℕ) → is_none cs ≡ false → (is : List ℕ) → Matches store cs is → (i : ℕ) × (i ∈ is) × ((store i ≡ None) → ⊥)
     go [] q is n = absurd (both_ways true q refl)
     go (c ∷ cs) q [] n = absurd n
-    go (c ∷ cs) q (j ∷ is) n = (j, here, λ z. none_some (sym (ap symbol_of z) ∙ n.0))
+    go (c ∷ cs) q (j ∷ is) n = (j, here, λ z. none-some _ (sym (ap symbol_of z) ∙ n.0))
 
 module _ (book : Book) where
   -- the history holds the applied tuples that still live, of rules that remove nothing
@@ -139,7 +139,7 @@ module _ (book : Book) where
         where
           go : (o : Option Record) → survivors (gone (rule_at book k) tuple) a.alive i ≡ o → o ≡ None
           go None q = refl
-          go (Some r) q = absurd (none_some (sym e ∙ (survivor (gone (rule_at book k) tuple) a.alive i r q).1))
+          go (Some r) q = absurd (none-some _ (sym e ∙ (survivor (gone (rule_at book k) tuple) a.alive i r q).1))
 
       out : (k' : ℕ) (t : List ℕ) → (firing k' t ≡ firing k tuple) ⊎ (firing k' t ∈ a.applied) → (i : ℕ) → i ∈ gone (rule_at book k') t → survivors (gone (rule_at book k) tuple) a.alive i ≡ None
       out k' t (inr z) i c = none i (past.dead k' t z i c)

@@ -1,5 +1,6 @@
 -- The abstract machine follows each call and each step of a sheet. Assumes nothing.
 use Rattle.std.proofs.Common.{◌≡◌, ℕ, suc, ◌+◌, ◌<◌, ◌≤◌, true, cond, ltb, ◌⊎◌, ◌↔◌, List, [], ◌∷◌, ◌++◌, map, length, Some, Ok, sym, refl, ap, ◌∙◌, subst, inl, inr, append-nil, add-one, arith}
+use Rattle.std.proofs.lemmas.Option.{same_Some}
 use Rattle.terms.specs.declared.Operand.{Operand}
 use Rattle.terms.specs.declared.Operand.TheVariants.{Value, Variable}
 use Rattle.terms.specs.declared.Primitive.{Primitive}
@@ -277,4 +278,4 @@ module _ {A B : Type 0} (T : Theory.Ghosts A) (P : PartnerTable.Ghosts B) where
       fine = parts_posting s.book (accepted es) g (posting_parts (Nameable (accepted es)) IsValue (λ n k. k) s.book kind symbol xs g c.declared c.counted (all_from (Nameable (accepted es)) xs (λ o k. nameable o (all_mem (Postable s.posted) ps k))) e')
 
       pend : pending_of t.waiting ≡ pending_of s.waiting ++ (g ∷ [])
-      pend = ap pending_of b.becomes.waiting ∙ pending_append s.waiting (goal h ∷ []) ∙ ap (λ z. pending_of s.waiting ++ (z ∷ [])) (Rattle.machine.proofs.Unique.some_inj (sym e ∙ e'))
+      pend = ap pending_of b.becomes.waiting ∙ pending_append s.waiting (goal h ∷ []) ∙ ap (λ z. pending_of s.waiting ++ (z ∷ [])) (same_Some _ _ (sym e ∙ e'))

@@ -1,6 +1,7 @@
 -- The runs on two small rule files. Assumes nothing.
 use Rattle.std.proofs.Common.{◌≡◌, ℕ, zero, suc, ◌+◌, ◌<◌, ◌≤◌, false, ◌⊎◌, List, [], ◌∷◌, ◌++◌, length, get_or, Some, sym, refl, ap, ◌∙◌, subst, inl, inr, arith, lit≤}
 use Rattle.std.proofs.lemmas.Bool.{cases_eq, both_ways}
+use Rattle.std.proofs.lemmas.Option.{none-some}
 use Rattle.rules.specs.Books.{add}
 use Rattle.theory.specs.declared.interface.Theory as Theory
 use Rattle.theory.specs.Meanings.{Meaning}
@@ -19,7 +20,7 @@ use Rattle.machine.specs.Refined as ref
 use Rattle.machine.specs.Refined.{meaning, RunSays, Opened}
 use Rattle.machine.specs.Samples.{kept_book, pair_book, silent, five_steps, six_steps, one_alone, two_gone, PostedA, Ends, SampleRuns}
 use Rattle.machine.proofs.Members.{mem_none, mem_cases, here_at}
-use Rattle.machine.proofs.Unique.{none_some, kept, made_some, Outcome, Fit}
+use Rattle.machine.proofs.Unique.{kept, made_some, Outcome, Fit}
 use Rattle.machine.proofs.Known.{Is, run_is, run_rests, run_stops, opened_is, posted_is}
 
 abbrev a : Record
@@ -94,7 +95,7 @@ module _ {A B : Type 0} (T : Theory.Ghosts A) (P : PartnerTable.Ghosts B) (room 
     where
       go : (1 ≡ x) ⊎ (1 ≡ x → ⊥) → x ≡ 1
       go (inl q) = sym q
-      go (inr n) = absurd (none_some (sym (ap (λ z. symbol_of (first z)) (with_other nothing 1 a x n)) ∙ e))
+      go (inr n) = absurd (none-some _ (sym (ap (λ z. symbol_of (first z)) (with_other nothing 1 a x n)) ∙ e))
 
   none_alone : (w : List Entry) (m : Meaning T.domain) (h : ℕ) (tuple : List ℕ) → Fit T.domain T.capacity P.limit pair_book w [] 2 0 with_a m 1 h 1 tuple → ⊥
   none_alone w m h [] f = f.0.matches
@@ -136,7 +137,7 @@ module _ {A B : Type 0} (T : Theory.Ghosts A) (P : PartnerTable.Ghosts B) (room 
 
   from_one : (m : Meaning T.domain) (other : List ℕ) → Fit T.domain T.capacity P.limit pair_book (active 2 1 ∷ []) [] 3 0 with_two m 1 1 2 other → 1 ≤ get_or other 0 0
   from_one m [] f = absurd f.0.matches
-  from_one m (zero ∷ xs) f = absurd (none_some f.0.matches.0)
+  from_one m (zero ∷ xs) f = absurd (none-some _ f.0.matches.0)
   from_one m (suc x ∷ xs) f = omega arith
 
   pub pair : (s t u : Config A B) → Opened T P pair_book s → PostedA T P s t → PostedA T P t u → (k : ℕ) → Ends T P u (6 + k) ended.Done 6 two_gone

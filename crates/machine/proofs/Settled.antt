@@ -1,5 +1,6 @@
 -- Coverage across each call and step of a sheet, and that the history was applied. Assumes nothing.
 use Rattle.std.proofs.Common.{◌≡◌, ℕ, suc, ◌<◌, ◌≤◌, Bool, true, false, not, ◌⊎◌, List, [], ◌∷◌, ◌++◌, map, length, Some, Ok, sym, refl, ap, ◌∙◌, subst, inl, inr, not-suc-le-zero}
+use Rattle.std.proofs.lemmas.Option.{none-some}
 use Rattle.terms.specs.declared.Operand.{Operand}
 use Rattle.terms.specs.declared.Primitive.{Primitive}
 use Rattle.rules.specs.Books.{tell, add, Book, heads}
@@ -16,7 +17,7 @@ use Rattle.machine.specs.Refined as ref
 use Rattle.machine.specs.Refined.{meaning, living, removes_nothing, names_any, Waits, Opened, StepSays, VariableSays, PostSays}
 use Rattle.machine.specs.Statements.{firings}
 use Rattle.machine.proofs.Members.{mem_left, mem_right, mem_append, mem_kept_back}
-use Rattle.machine.proofs.Unique.{none_some, matches_length}
+use Rattle.machine.proofs.Unique.{matches_length}
 use Rattle.machine.proofs.Stores.{adding, survivors, survivor, living_with, living_without, matched_record}
 use Rattle.machine.proofs.Cover.{firing, remembered, Covers, told_covers, passed_covers, made_covers, more_covers, risen_covers, late_covers, dead_covers, over_covers, added_covers, fired_covers}
 use Rattle.machine.proofs.Trails.{firings_more}
@@ -55,7 +56,7 @@ module _ {A B : Type 0} (T : Theory.Ghosts A) (P : PartnerTable.Ghosts B) where
   covered_waits s t v w e b f c = covered_with s t w s.history (living P s) b.becomes.book b.becomes.waiting b.becomes.history (same_table s t b.table) (subst (λ (z : A). Covers s.book (T.means z) w s.history (living P s)) (sym b.theory) (f (subst (λ z. Covers s.book (meaning T s) z s.history (living P s)) e c)))
 
   pub covered_opened : (book : Book) (s : Config A B) → Valid book → Opened T P book s → CoveredAt s
-  covered_opened book s valid o st k tuple a b ap = absurd (none_match (living P s) (heads (rule_at s.book k)) tuple (λ i r e. none_some (sym (mathlib.Core.Path.ap (λ (t : Table). first (t i)) o.empty) ∙ e)) (rule_valid s.book (subst Valid (sym o.opened) valid) k a b).some_head ap.matches)
+  covered_opened book s valid o st k tuple a b ap = absurd (none_match (living P s) (heads (rule_at s.book k)) tuple (λ i r e. none-some _ (sym (mathlib.Core.Path.ap (λ (t : Table). first (t i)) o.empty) ∙ e)) (rule_valid s.book (subst Valid (sym o.opened) valid) k a b).some_head ap.matches)
 
   pub covered_step : (s t : Config A B) (a : StepAnswer) → P.records s.table s.next ≡ [] → Good T P s → StepSays T P s a t → CoveredAt s → CoveredAt t
   covered_step s t a free good (ref.fails f) c = c

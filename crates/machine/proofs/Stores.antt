@@ -1,6 +1,7 @@
 -- Tuples that match, and what putting in and taking out leaves of what lives. Assumes nothing.
 use Rattle.std.proofs.Common.{◌≡◌, ℕ, zero, suc, ◌-◌, ◌<◌, Bool, true, false, cond, eqb, ltb, ◌⊎◌, List, [], ◌∷◌, length, get_or, pos, Some, None, Option, sym, refl, ap, ◌∙◌, inl, inr, not-suc-le-zero, arith}
 use Rattle.std.proofs.lemmas.Bool.{both_ways, eqb-true, eq-eqb, ne_eqb}
+use Rattle.std.proofs.lemmas.Option.{none-some, same_Some}
 use Rattle.terms.specs.declared.Operand.{Operand}
 use Rattle.terms.specs.declared.Operand.TheVariants.{Value}
 use Rattle.terms.specs.Lists.{All}
@@ -13,12 +14,11 @@ use Rattle.machine.specs.Matching.{Store, Matches, head_slot, arguments_of}
 use Rattle.machine.specs.Sheets.{Config}
 use Rattle.machine.specs.Refined.{living}
 use Rattle.machine.proofs.Members.{mem_cases, mem_none, all_get_d, memberb_of, memberb_not}
-use Rattle.machine.proofs.Unique.{none_some, some_inj}
 
 -- the record that a matched head names
 pub named : (o : Option Record) (s : ℕ) → symbol_of o ≡ Some s → (r : Record) × (o ≡ Some r) × (r.symbol ≡ s)
-named None s e = absurd (none_some e)
-named (Some r) s e = (r, refl, some_inj e)
+named None s e = absurd (none-some _ e)
+named (Some r) s e = (r, refl, same_Some _ _ e)
 
 -- each constraint of a tuple that matches lives
 pub matched_record : (store : Store) (hs is : List ℕ) → Matches store hs is → {i : ℕ} → i ∈ is → (r : Record) × (store i ≡ Some r)
@@ -75,7 +75,7 @@ pub survivor : (gone : List ℕ) (store : Store) (i : ℕ) (r : Record) → surv
 survivor gone store i r e = go (memberb i gone) refl e
   where
     go : (b : Bool) → memberb i gone ≡ b → cond b None (store i) ≡ Some r → (i ∈ gone → ⊥) × (store i ≡ Some r)
-    go true q z = absurd (none_some z)
+    go true q z = absurd (none-some _ z)
     go false q z = (λ m. both_ways (memberb i gone) q (memberb_of m), z)
 
 pub survives : (gone : List ℕ) (store : Store) (i : ℕ) → (i ∈ gone → ⊥) → survivors gone store i ≡ store i
@@ -98,7 +98,7 @@ pub added_cases : (n : ℕ) (r : Record) (store : Store) (i : ℕ) (x : Record) 
 added_cases n r store i x e = go (eqb n i) refl e
   where
     go : (b : Bool) → eqb n i ≡ b → cond b (Some r) (store i) ≡ Some x → ((n ≡ i) × (r ≡ x)) ⊎ (store i ≡ Some x)
-    go true q z = inl (eqb-true n i q, some_inj z)
+    go true q z = inl (eqb-true n i q, same_Some _ _ z)
     go false q z = inr z
 
 module _ {A B : Type 0} (P : PartnerTable.Ghosts B) where

@@ -2,6 +2,7 @@
 use Rattle.std.proofs.Common.{◌≡◌, ℕ, zero, suc, ◌+◌, ◌-◌, ◌<◌, ◌≤◌, true, ◌⊎◌, List, [], ◌∷◌, ◌++◌, map, length, get_or, Some, None, Option, sym, refl, subst, inl, inr, arith}
 use mathlib.Core.Bool.{Bool-discrete}
 use Rattle.std.proofs.lemmas.Bool.{cases_lt}
+use Rattle.std.proofs.lemmas.Option.{none-some}
 use Rattle.terms.specs.declared.Operand.{Operand}
 use Rattle.terms.specs.declared.Operand.TheVariants.{Value, Variable}
 use Rattle.terms.specs.Lists.{All}
@@ -27,7 +28,6 @@ use Rattle.machine.proofs.Places.{occurs_bounds}
 use Rattle.machine.proofs.Orders.{positions_have}
 use Rattle.machine.proofs.Meanings.{dec_both}
 use Rattle.machine.proofs.Least.{first_or_none}
-use Rattle.machine.proofs.Unique.{none_some}
 
 dec_le : (m n : ℕ) → Dec (m ≤ n)
 dec_le m n = go (cases_lt n m)
@@ -95,7 +95,7 @@ module _ {A B : Type 0} (T : Theory.Ghosts A) (P : PartnerTable.Ghosts B) (decid
   lives_low s i r e = go (P.records s.table i) (fits s.table i) e
     where
       go : (rs : List Record) → All (λ z. fit i z ≡ true) rs → first rs ≡ Some r → i < 1000001
-      go [] a q = absurd (none_some q)
+      go [] a q = absurd (none-some _ q)
       go (z ∷ zs) a q = let l = high_fit i z a.0 in omega arith
 
   some_wake : (s : Config A B) → (is : List ℕ) × Wakes (meaning T s) (living P s) is

@@ -1,5 +1,6 @@
 -- What the top item decides: a step's answer and all that it leaves. Assumes nothing.
 use Rattle.std.proofs.Common.{◌≡◌, ℕ, suc, ◌+◌, ◌-◌, ◌<◌, ◌≤◌, true, cond, not, ltb, ◌⊎◌, List, [], ◌∷◌, ◌++◌, map, length, get_or, Some, None, filter, Option, sym, refl, ap, ◌∙◌, subst, inl, inr, arith}
+use Rattle.std.proofs.lemmas.Option.{none-some, same_Some}
 use Rattle.terms.specs.declared.Operand.{Operand}
 use Rattle.terms.specs.declared.Primitive.{Primitive}
 use Rattle.terms.specs.Domains.{Domain}
@@ -18,12 +19,6 @@ use Rattle.machine.proofs.Orders.{first_is_one, rising_one}
 use Rattle.machine.proofs.Members.{mem_dec, all_map}
 use Rattle.machine.proofs.Meanings.{same_back, failed_same, fixed_same, follows_same}
 use native.Mathlib.Decide.{ℕ_discrete}
-
-pub none_some : {A : Type 0} {x : A} → None ≡ Some x → ⊥
-none_some {A} {x} e = let z : ◌≡◌ {A = ℕ} 0 1 = cc in omega arith
-
-pub some_inj : {A : Type 0} {x y : A} → Some x ≡ Some y → x ≡ y
-some_inj e = cc
 
 -- one of two cases that exclude each other
 abbrev pub Split : Type 0 → Type 0 → Type 0 → Type 0 → Type 0
@@ -175,13 +170,13 @@ module _ (d : Domain) (capacity room : ℕ) (book : Book) (waiting : List Entry)
   item_one m (goal (tell q) ∷ rest) o p a b = split_one over_not both both a.2 (subst (λ z. Split (512 < length z + length rest) (length z + length rest ≤ 512) (p ≡ stay (full limit.Waiting)) (p ≡ (told, map wake z ++ rest, history, next, told_one q, table))) (sym (wakes_one m store a.0 b.0 a.1 b.1)) b.2)
   item_one m (goal (add c xs) ∷ rest) o p a b = split_one over_not both (split_one over_not both both) a b
   item_one m (wake i ∷ rest) o p (inl a) (inl b) = both a.1 b.1
-  item_one m (wake i ∷ rest) o p (inl a) (inr b) = absurd (none_some (sym a.0 ∙ b.1))
-  item_one m (wake i ∷ rest) o p (inr a) (inl b) = absurd (none_some (sym b.0 ∙ a.1))
+  item_one m (wake i ∷ rest) o p (inl a) (inr b) = absurd (none-some _ (sym a.0 ∙ b.1))
+  item_one m (wake i ∷ rest) o p (inr a) (inl b) = absurd (none-some _ (sym b.0 ∙ a.1))
   item_one m (wake i ∷ rest) o p (inr a) (inr b) = both a.2 b.2
   item_one m (active i j ∷ rest) o p (inl a) (inl b) = both a.1 b.1
-  item_one m (active i j ∷ rest) o p (inl a) (inr b) = absurd (none_some (sym a.0 ∙ b.1))
-  item_one m (active i j ∷ rest) o p (inr a) (inl b) = absurd (none_some (sym b.0 ∙ a.1))
-  item_one m (active i j ∷ rest) o p (inr a) (inr b) = lives_one m rest i j a.0 o p a.2 (subst (λ (z : Record). Lives m rest i j z p) (some_inj (sym b.1 ∙ a.1)) b.2)
+  item_one m (active i j ∷ rest) o p (inl a) (inr b) = absurd (none-some _ (sym a.0 ∙ b.1))
+  item_one m (active i j ∷ rest) o p (inr a) (inl b) = absurd (none-some _ (sym b.0 ∙ a.1))
+  item_one m (active i j ∷ rest) o p (inr a) (inr b) = lives_one m rest i j a.0 o p a.2 (subst (λ (z : Record). Lives m rest i j z p) (same_Some _ _ (sym b.1 ∙ a.1)) b.2)
 
   pub decided_one : (m : Meaning d) (o p : Outcome) → Decided m o → Decided m p → o ≡ p
   decided_one m o p = split_one (λ f n. n f) both (item_one m waiting o p)

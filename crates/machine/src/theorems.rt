@@ -1,5 +1,5 @@
 //! What is proved of the machines, over any theory and any partner table: each function's contract is a theorem.
-//! There is a function for each, since a contract cannot be passed to a function.
+//! There is a function for each, so that each theorem has a name; one function with all the clauses would be refused whole where one of them fails.
 
 ghost use Rattle.machine.specs.Keys.{KeyedPartners};
 ghost use Rattle.machine.specs.Samples.{SampleRuns};

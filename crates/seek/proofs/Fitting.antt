@@ -2,6 +2,7 @@
 use Rattle.std.proofs.Common.{◌≡◌, ℕ, zero, suc, ◌<◌, ◌≤◌, true, eqb, ◌⊎◌, List, [], ◌∷◌, ◌++◌, length, get_or, take, ℤ, Some, Option, sym, refl, ap, subst, inl, inr, not-suc-le-zero, arith}
 use Rattle.std.proofs.lemmas.List.{append_assoc, length-append, take_all}
 use Rattle.std.proofs.lemmas.Bool.{eq-eqb, ne_eqb, and_from, or_left}
+use Rattle.std.proofs.lemmas.Option.{none-some, same_Some}
 use Rattle.terms.specs.Lists.{All}
 use Rattle.table.specs.Lists.{first, is_none}
 use Rattle.table.specs.Nexts.{has_key, answers, any_answers}
@@ -10,16 +11,15 @@ use Rattle.table.specs.Looks.{low_fit}
 use Rattle.machine.specs.Lists.{◌∈◌, there, Distinct, NoLater}
 use Rattle.machine.specs.Matching.{Store, Matches, arguments_of}
 use Rattle.machine.proofs.Members.{mem_cases, mem_none, mem_right, mem_append, get_or_mem, here_at}
-use Rattle.machine.proofs.Unique.{none_some, some_inj}
 
 -- a first record with the symbol and the key answers to them
 pub first_answers : (xs : List Record) (c : ℕ) (key : Option ℤ) → symbol_of (first xs) ≡ Some c → has_key key (arguments_of (first xs)) ≡ true → any_answers (Some c) key xs ≡ true
-first_answers [] c key e k = absurd (none_some e)
-first_answers (r ∷ rs) c key e k = or_left (answers (Some c) key r) (any_answers (Some c) key rs) (and_from (eqb c r.symbol) (has_key key r.arguments) (eq-eqb c r.symbol (sym (some_inj e))) k)
+first_answers [] c key e k = absurd (none-some _ e)
+first_answers (r ∷ rs) c key e k = or_left (answers (Some c) key r) (any_answers (Some c) key rs) (and_from (eqb c r.symbol) (has_key key r.arguments) (eq-eqb c r.symbol (sym (same_Some _ _ e))) k)
 
 -- an identifier with a record is from 1 to 1,000,000
 pub low_first : (i : ℕ) (xs : List Record) (c : ℕ) → All (λ r. fit i r ≡ true) xs → symbol_of (first xs) ≡ Some c → 1 ≤ i
-low_first i [] c a e = absurd (none_some e)
+low_first i [] c a e = absurd (none-some _ e)
 low_first i (r ∷ rs) c a e = low_fit i r a.0
 
 -- what stands at the next head

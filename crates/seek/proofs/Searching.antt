@@ -1,9 +1,10 @@
 -- The search for partners: what each turn of it shows. Assumes nothing.
-use Rattle.std.proofs.Common.{◌≡◌, ℕ, zero, suc, ◌+◌, ◌-◌, ◌<◌, ◌≤◌, Bool, true, false, cond, eqb, ◌⊎◌, List, [], ◌∷◌, ◌++◌, length, get_or, take, ℤ, is_some, Some, None, Option, sym, refl, ap, ◌∙◌, subst, inl, inr, zero-le, not-suc-le-zero, arith}
+use Rattle.std.proofs.Common.{◌≡◌, ℕ, zero, suc, ◌+◌, ◌-◌, ◌<◌, ◌≤◌, Bool, true, false, cond, eqb, ◌⊎◌, List, [], ◌∷◌, ◌++◌, length, get_or, take, is_some, Some, None, Option, sym, refl, ap, ◌∙◌, subst, inl, inr, zero-le, not-suc-le-zero, arith}
 use Rattle.std.specs.Bool.{then_some}
 use Rattle.std.specs.Option.{option_map, option_or}
 use Rattle.std.proofs.lemmas.List.{append-nil, length-append, get_or_at, get_or_append_left, take_all}
 use Rattle.std.proofs.lemmas.Bool.{cases_order, cases_lt, cases_eq, true≢false, false≢true, both_ways, eqb-true}
+use Rattle.std.proofs.lemmas.Option.{none-some, same_Some}
 use Rattle.terms.specs.declared.Primitive.{Primitive}
 use Rattle.terms.specs.declared.Term.{Term}
 use Rattle.terms.specs.Answers.{Answers}
@@ -21,7 +22,7 @@ use Rattle.machine.specs.Sheets.{Config}
 use Rattle.machine.specs.Refined.{rule_of, meaning, living, removes_nothing, Fits}
 use Rattle.machine.specs.Keys.{Agrees, key_at}
 use Rattle.machine.proofs.Keys.{keyed_partners}
-use Rattle.machine.proofs.Unique.{none_some, some_inj, matches_length}
+use Rattle.machine.proofs.Unique.{matches_length}
 use Rattle.seek.specs.Fillings.{filler_at}
 use Rattle.seek.specs.Searches.{AtHead, Begun, Ready, FirstFrom, MayFill, KeyFits, Searched}
 use Rattle.seek.proofs.Fitting.{first_answers, low_first, matches_next, matches_more, distinct_more, distinct_next, distinct_at, no_later_front, no_later_less, one_more}
@@ -75,8 +76,8 @@ module _ (pre : List ℕ) (x : ℕ) {n : ℕ} (l : length pre < n) (few : n ≤ 
 
 -- the fillers agree with a tuple that begins with those identifiers and has the active one at its head
 nth_in : (pre ys : List ℕ) (p j : ℕ) → nth pre p ≡ Some j → get_or (pre ++ ys) p 0 ≡ j
-nth_in [] ys p j e = absurd (none_some e)
-nth_in (x ∷ pre) ys zero j e = some_inj e
+nth_in [] ys p j e = absurd (none-some _ e)
+nth_in (x ∷ pre) ys zero j e = same_Some _ _ e
 nth_in (x ∷ pre) ys (suc p) j e = nth_in pre ys p j e
 
 agrees : (pre ys : List ℕ) (h i : ℕ) → get_or (pre ++ ys) h 0 ≡ i → Agrees (filler_at pre h i) (pre ++ ys)
@@ -84,8 +85,8 @@ agrees pre ys h i at p j e = go (nth pre p) refl (eqb p h) refl e
   where
     go : (o : Option ℕ) → nth pre p ≡ o → (b : Bool) → eqb p h ≡ b → option_or o (cond b (Some i) None) ≡ Some j → get_or (pre ++ ys) p 0 ≡ j
     go (Some x) q b z w = nth_in pre ys p j (q ∙ w)
-    go None q true z w = ap (λ (n : ℕ). get_or (pre ++ ys) n 0) (eqb-true p h z) ∙ at ∙ some_inj w
-    go None q false z w = absurd (none_some w)
+    go None q true z w = ap (λ (n : ℕ). get_or (pre ++ ys) n 0) (eqb-true p h z) ∙ at ∙ same_Some _ _ w
+    go None q false z w = absurd (none-some _ w)
 
 -- what was not applied before is ready where the guards follow, over heads and guards that are the rule's
 pub ready_from : {A B : Type 0} (T : Theory.Ghosts A) (P : PartnerTable.Ghosts B) (s : Config A B) (k : ℕ) (r : Rule) (tuple : List ℕ) → ((removes_nothing r ≡ true) × ((k, tuple) ∈ s.history) → ⊥) → (hs : List ℕ) → hs ≡ heads r → (gs : List (Primitive Term)) → gs ≡ r.guards → (b : Bool) → Answers b (All (λ g. Follows (meaning T s) (fill_primitive (head_slot s.book.arities (living P s) hs tuple) g)) gs) → Answers b (Ready T P s k r tuple)

@@ -1,7 +1,8 @@
-use Rattle.std.proofs.Common.{◌≡◌, ℕ, ◌++◌, ◌∷◌, [], length, get_or, Some, sym, ap, ◌∙◌, append_assoc, arith, length-append}
+use Rattle.std.proofs.Common.{◌≡◌, ℕ, ◌++◌, ◌∷◌, [], length, get_or, Some, sym, ap, ◌∙◌, arith, length-append}
 use Rattle.std.proofs.Math.Seq.{get_or-append_seam}
 use Rattle.table.specs.Lists.{nth}
 use Rattle.machine.specs.Occurrences.{places_from}
+use Rattle.machine.proofs.Backwards.{one_back}
 use Rattle.seek.proofs.Occurring.{place_here, place_passed, place_other}
 use Rattle.seek.proofs.occurrences.place_in.Goals as goal
 
@@ -12,7 +13,7 @@ returns-then-left-eq0 c =
     let before = c.next.new.self.iter.iter.rest.now in
     let x = c.in-Some.head.now in
     let r : c.loop-place.place-iterator.iter.iter.rest.now ≡ before ++ (x ∷ []) = s.1.0 in
-    let e : c.args.heads.now ≡ before ++ (x ∷ i.0) = i.1 ∙ ap (λ z. z ++ i.0) r ∙ append_assoc before (x ∷ []) i.0 in
+    let e : c.args.heads.now ≡ before ++ (x ∷ i.0) = one_back before i.0 x i.1 r in
     let p : c.in-Some.place ≡ length before = omega (arith, s.1.1, i.2) in
     record {
       within = omega (arith, p, ap length e, length-append before (x ∷ i.0));
@@ -34,7 +35,7 @@ loop-place-preserved-then-head-symbol c =
     let x = c.in-Some.head.now in
     let r : c.loop-place.place-iterator.iter.iter.rest.now ≡ before ++ (x ∷ []) = s.1.0 in (
       x ∷ i.0,
-      i.1 ∙ ap (λ z. z ++ i.0) r ∙ append_assoc before (x ∷ []) i.0,
+      one_back before i.0 x i.1 r,
       s.0 ∙ i.2,
       (λ k rest. i.3 k rest ∙ ap (λ z. nth (places_from k c.args.symbol z 0 ++ rest) c.loop-place.left) r ∙ place_passed k c.args.symbol before x rest c.loop-place.left c.if-head-symbol.true (omega (arith, c.if-left-eq0.false))),
       omega (arith, i.4, c.if-left-eq0.false),
@@ -48,7 +49,7 @@ loop-place-preserved c =
     let x = c.in-Some.head.now in
     let r : c.loop-place.place-iterator.iter.iter.rest.now ≡ before ++ (x ∷ []) = s.1.0 in (
       x ∷ i.0,
-      i.1 ∙ ap (λ z. z ++ i.0) r ∙ append_assoc before (x ∷ []) i.0,
+      one_back before i.0 x i.1 r,
       s.0 ∙ i.2,
       (λ k rest. i.3 k rest ∙ ap (λ z. nth (places_from k c.args.symbol z 0 ++ rest) c.loop-place.left) r ∙ place_other k c.args.symbol before x rest c.loop-place.left c.if-head-symbol.false),
       omega (arith, i.4),

@@ -1,10 +1,11 @@
-use Rattle.std.proofs.Common.{◌≡◌, ◌+◌, ◌<◌, ◌++◌, ◌∷◌, [], map, length, refl, sym, ap, ◌∙◌, subst, append_assoc, append-nil, arith, length-append}
-use Rattle.std.proofs.lemmas.List.{nil_from_length, length-map, map-append}
+use Rattle.std.proofs.Common.{◌≡◌, ◌+◌, ◌<◌, ◌++◌, ◌∷◌, [], map, length, refl, sym, ap, ◌∙◌, subst, append-nil, arith, length-append}
+use Rattle.std.proofs.lemmas.List.{length-map, map-append}
 use Rattle.terms.specs.Lists.{All}
 use Rattle.rules.specs.Valids.{GoalValid}
 use Rattle.rules.specs.Views.{goal_of}
 use Rattle.lists.specs.Entries.{goal_means}
 use Rattle.lists.specs.Views.{Waits, waiting_of}
+use Rattle.machine.proofs.Backwards.{one_back, all_back}
 use Rattle.machine.proofs.Members.{all_parts}
 use Rattle.applying.specs.Fillers.{operand_at, argument_counts}
 use Rattle.applying.proofs.Pushing.{topped, pushed_more}
@@ -21,7 +22,7 @@ loop-item-preserved g c =
     let i = c.loop-item.invariant in
     let x = c.in-Some.item.now in
     let before = c.next.new.self.iter.rest.now in
-    let e : c.args.items.now ≡ before ++ (x ∷ i.0) = i.1 ∙ ap (λ z. z ++ i.0) c.in-Some.ensures.steps ∙ append_assoc before (x ∷ []) i.0 in (
+    let e : c.args.items.now ≡ before ++ (x ∷ i.0) = one_back before i.0 x i.1 c.in-Some.ensures.steps in (
       x ∷ i.0,
       e,
       λ n h.
@@ -34,4 +35,4 @@ loop-item-preserved g c =
 pub returns : goal.returns
 returns g c n h =
     let i = c.loop-item.invariant in
-    subst (λ z. Waits c.args.lists.now c.loop-item.lists (topped (operand_at g.P.PartnerTable c.args.self.now) (waiting_of c.args.lists.now) (map goal_of z))) (sym (i.1 ∙ ap (λ z. z ++ i.0) (nil_from_length _ c.in-None.ensures.steps.0))) (i.2 n h)
+    subst (λ z. Waits c.args.lists.now c.loop-item.lists (topped (operand_at g.P.PartnerTable c.args.self.now) (waiting_of c.args.lists.now) (map goal_of z))) (sym (all_back c.loop-item.item-iterator.iter.rest.now i.1 c.in-None.ensures.steps.0)) (i.2 n h)

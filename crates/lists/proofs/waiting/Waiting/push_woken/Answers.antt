@@ -1,8 +1,9 @@
-use Rattle.std.proofs.Common.{◌≡◌, ◌+◌, ◌++◌, ◌∷◌, [], map, length, refl, sym, ap, ◌∙◌, append_assoc, append-nil, deque_items, arith, length-append}
-use Rattle.std.proofs.lemmas.List.{nil_from_length, length-map}
+use Rattle.std.proofs.Common.{◌≡◌, ◌+◌, ◌++◌, ◌∷◌, [], map, length, refl, sym, ap, ◌∙◌, append-nil, deque_items, arith, length-append}
+use Rattle.std.proofs.lemmas.List.{length-map}
 use Rattle.machine.specs.Sheets.{wake}
 use Rattle.lists.specs.Entries.{entry_means, all_storable}
 use Rattle.lists.specs.Queues.{queued}
+use Rattle.machine.proofs.Backwards.{one_back, all_back}
 use Rattle.lists.proofs.waiting.Waiting.push_woken.Goals as goal
 
 pub loop-identifier-init : goal.loop-identifier-init
@@ -19,7 +20,7 @@ loop-identifier-preserved c =
     let i = c.loop-identifier.invariant in
     let x = c.in-Some.identifier.now in (
       x ∷ i.0,
-      i.1 ∙ ap (λ z. z ++ i.0) c.in-Some.ensures.steps ∙ append_assoc c.next.new.self.iter.rest.now (x ∷ []) i.0,
+      one_back c.next.new.self.iter.rest.now i.0 x i.1 c.in-Some.ensures.steps,
       ap (map entry_means) c.push_front_reserved.ensures.items ∙ ap (λ z. wake x ∷ z) i.2,
       omega (arith, i.3),
     )
@@ -27,4 +28,4 @@ loop-identifier-preserved c =
 pub returns : goal.returns
 returns c =
     let i = c.loop-identifier.invariant in
-    i.2 ∙ ap (λ z. map wake z ++ queued c.args.self.now) (sym (i.1 ∙ ap (λ z. z ++ i.0) (nil_from_length _ c.in-None.ensures.steps.0)))
+    i.2 ∙ ap (λ z. map wake z ++ queued c.args.self.now) (sym (all_back c.loop-identifier.identifier-iterator.iter.rest.now i.1 c.in-None.ensures.steps.0))
