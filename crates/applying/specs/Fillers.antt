@@ -38,6 +38,6 @@ module _ {B : Type 0} (P : PartnerTable.Ghosts B) where
   abbrev pub operand_at : Filler B → ℕ → Operand
   operand_at f k = cond (nat_lt k (head_slots f)) (slot_in P f.slots k) (Variable (f.made + (k - head_slots f)))
 
-  -- the same of as many slots and variables as have numbers below 256
+  -- the same as bytes count it: how many slots there are, and the number of a variable, are 255 where they would pass it
   abbrev pub placed_at : Filler B → ℕ → Operand
   placed_at f k = cond (nat_lt k (min (head_slots f) 255)) (slot_in P f.slots k) (Variable (min (f.made + (k - min (head_slots f) 255)) 255))

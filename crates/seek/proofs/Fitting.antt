@@ -1,6 +1,6 @@
 -- Tuples that fit a rule, head by head. Assumes nothing.
 use Rattle.std.proofs.Common.{◌≡◌, ℕ, zero, suc, ◌<◌, ◌≤◌, true, eqb, ◌⊎◌, List, [], ◌∷◌, ◌++◌, length, get_or, take, ℤ, Some, Option, sym, refl, ap, subst, inl, inr, not-suc-le-zero, arith}
-use Rattle.std.proofs.lemmas.List.{append_assoc, length-append, take_all}
+use Rattle.std.proofs.lemmas.List.{append_assoc}
 use Rattle.std.proofs.lemmas.Bool.{eq-eqb, ne_eqb, and_from, or_left}
 use Rattle.std.proofs.lemmas.Option.{none-some, same_Some}
 use Rattle.terms.specs.Lists.{All}
@@ -72,10 +72,6 @@ no_later_less (p ∷ pre) x y xs ys l = (omega arith, λ e. no_later_less pre x 
 
 pub one_more : (pre ys : List ℕ) (y : ℕ) → (pre ++ (y ∷ [])) ++ ys ≡ pre ++ (y ∷ ys)
 one_more pre ys y = append_assoc pre (y ∷ []) ys
-
--- a tuple of one more, where there is room
-pub with_more : (pre : List ℕ) (x : ℕ) → length pre < 3 → take 3 (pre ++ (x ∷ [])) ≡ pre ++ (x ∷ [])
-with_more pre x l = take_all 3 (pre ++ (x ∷ [])) (omega (arith, length-append pre (x ∷ [])))
 
 pub none_there : {A : Type 0} (xs : List A) → eqb (length xs) 0 ≡ is_none xs
 none_there [] = refl

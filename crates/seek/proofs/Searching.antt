@@ -105,6 +105,14 @@ module _ {A B : Type 0} (T : Theory.Ghosts A) (P : PartnerTable.Ghosts B) (s : C
   abbrev pub NoneBelow : List ℕ → ℕ → Type 0
   NoneBelow pre x = (y : ℕ) (ys : List ℕ) → y < x → Fits T P s k h i (pre ++ (y ∷ ys)) → ⊥
 
+  -- nor, where nothing at the next place does, up to that
+  pub passed_more : (pre : List ℕ) (x : ℕ) → NoneBelow pre x → ((ys : List ℕ) → Fits T P s k h i (pre ++ (x ∷ ys)) → ⊥) → Passed pre x
+  passed_more pre x below here y ys l f = go (cases_lt y x)
+    where
+      go : (y < x) ⊎ (x ≤ y) → ⊥
+      go (inl m) = below y ys m f
+      go (inr m) = here ys (subst (λ z. Fits T P s k h i (pre ++ (z ∷ ys))) (between l m) f)
+
 module _ {A B : Type 0} {T : Theory.Ghosts A} {P : PartnerTable.Ghosts B} {s : Config A B} {k h i : ℕ} where
   long : (xs : List ℕ) → Fits T P s k h i xs → length xs ≡ length (heads (rule_of s k))
   long xs f = matches_length (living P s) (heads (rule_of s k)) xs f.applies.matches
@@ -130,6 +138,15 @@ module _ {A B : Type 0} {T : Theory.Ghosts A} {P : PartnerTable.Ghosts B} {s : C
 
     count : length (heads r) ≡ length (heads (rule_of s k))
     count = ap length same_heads
+
+    -- nothing leads to one below the first identifier
+    pub passed_none : ((y : ℕ) → All (λ r. fit y r ≡ true) (P.records s.table y)) → Passed T P s k h i pre 0
+    passed_none fits y ys l f = not_none l (low_first y (P.records s.table y) (get_or (heads (rule_of s k)) (length pre) 0) (fits y) (next_symbol pre y ys f))
+
+    -- nor through one from which none is found
+    pub tried_any : {D : Type 0} (f : D → List ℕ) (x : ℕ) (o : Option D) → is_some o ≡ false → FirstFrom T P s k h i (pre ++ (x ∷ [])) (option_map f o) → (ys : List ℕ) → Fits T P s k h i (pre ++ (x ∷ ys)) → ⊥
+    tried_any f x None e w ys g = w ys (subst (Fits T P s k h i) (sym (one_more pre ys x)) g)
+    tried_any f x (Some a) e w ys g = absurd (true≢false e)
 
     -- where all heads are filled
     filled_none : length (heads r) ≤ length pre → (Ready T P s k r pre → ⊥) → FirstFrom T P s k h i pre None
@@ -197,6 +214,10 @@ module _ {A B : Type 0} {T : Theory.Ghosts A} {P : PartnerTable.Ghosts B} {s : C
             go (inr m) = p y ys m f
             go (inl m) = both_ways (any_answers (Some symbol) (key_at s.book.arities (living P s) r (filler_at pre h i) (length pre)) (P.records s.table y)) (n.2 y m l) (replies y ys f)
 
+        -- nothing up to the next answer does, if nothing does there
+        pub passed_on : (last x : ℕ) {high : ℕ} → high ≡ x → Passed T P s k h i pre last → NextOf (P.records s.table) (Some symbol) (key_at s.book.arities (living P s) r (filler_at pre h i) (length pre)) last (Some x) → ((ys : List ℕ) → Fits T P s k h i (pre ++ (x ∷ ys)) → ⊥) → Passed T P s k h i pre high
+        passed_on last x e p n here = subst (Passed T P s k h i pre) (sym e) (passed_more T P s k h i pre x (passed_below last x p n) here)
+
         pub none_left : (last : ℕ) → Passed T P s k h i pre last → NextOf (P.records s.table) (Some symbol) (key_at s.book.arities (living P s) r (filler_at pre h i) (length pre)) last None → FirstFrom T P s k h i pre None
         none_left last p n ys f = let z = next_there pre ys room f in go z.0 z.1 (subst (λ w. Fits T P s k h i (pre ++ w)) z.2 f) (cases_lt last z.0)
           where
@@ -233,17 +254,3 @@ module _ {A B : Type 0} (T : Theory.Ghosts A) (P : PartnerTable.Ghosts B) (s : C
   pub searched : {D : Type 0} (f : D → List ℕ) (o : Option D) → FirstFrom T P s k h i [] (option_map f o) → Searched T P s k h i (option_map f o)
   searched f None n = n
   searched f (Some x) w = record { fits = w.fits; before = λ other g. in_order (f x) other h (w.fits.at ∙ sym g.at) (length (heads (rule_of s k))) (long (f x) w.fits) (long other g) (w.least other g) }
-
-  pub passed_none : ((y : ℕ) → All (λ r. fit y r ≡ true) (P.records s.table y)) → (pre : List ℕ) → Passed T P s k h i pre 0
-  passed_none fits pre y ys l f = not_none l (low_first y (P.records s.table y) (get_or (heads (rule_of s k)) (length pre) 0) (fits y) (next_symbol pre y ys f))
-
-  pub passed_more : (pre : List ℕ) (x : ℕ) → NoneBelow T P s k h i pre x → ((ys : List ℕ) → Fits T P s k h i (pre ++ (x ∷ ys)) → ⊥) → Passed T P s k h i pre x
-  passed_more pre x below here y ys l f = go (cases_lt y x)
-    where
-      go : (y < x) ⊎ (x ≤ y) → ⊥
-      go (inl m) = below y ys m f
-      go (inr m) = here ys (subst (λ z. Fits T P s k h i (pre ++ (z ∷ ys))) (between l m) f)
-
-  pub tried_any : {D : Type 0} (f : D → List ℕ) (pre : List ℕ) (x : ℕ) → (o : Option D) → is_some o ≡ false → FirstFrom T P s k h i (pre ++ (x ∷ [])) (option_map f o) → (ys : List ℕ) → Fits T P s k h i (pre ++ (x ∷ ys)) → ⊥
-  tried_any f pre x None e w ys g = w ys (subst (Fits T P s k h i) (sym (one_more pre ys x)) g)
-  tried_any f pre x (Some a) e w ys g = absurd (true≢false e)

@@ -6,7 +6,7 @@ use Rattle.machine.specs.Tuples.{ids}
 use Rattle.seek.specs.Searches.{view, FirstFrom}
 use Rattle.seek.proofs.Occurring.{heads_are}
 use Rattle.tablelaws.proofs.Stepping.{begun, gone_on, next_step}
-use Rattle.seek.proofs.Searching.{Passed, room_for, head_symbol, with_one, fewer_left, found_from, filled, active_twice, active_begun, active_found, passed_none, passed_below, passed_more, unfit, fill_begun, none_left, found_any, tried_any}
+use Rattle.seek.proofs.Searching.{Passed, room_for, head_symbol, with_one, fewer_left, found_from, filled, active_twice, active_begun, active_found, passed_none, passed_below, passed_on, unfit, fill_begun, none_left, found_any, tried_any}
 use Rattle.seek.proofs.partners.Search.+first_from.Goals as goal
 
 pub returns-then-place-heads : goal.returns-then-place-heads
@@ -43,8 +43,7 @@ loop-identifier-init g t c =
     let o = c.of-identifier-items.ensures in
     record {
       visit = begun e o.table o.symbol (o.key ∙ c.key-key.ensures);
-      passed = λ b. subst (Passed g.T.Theory g.P.PartnerTable (view c.args.self.now) c.args.attempt.number c.args.attempt.head c.args.attempt.active (ids c.args.tuple)) (sym (ap (λ v. v.above) e ∙ o.above))
-          (passed_none g.T.Theory g.P.PartnerTable (view c.args.self.now) c.args.attempt.number c.args.attempt.head c.args.attempt.active (g.met.P.PartnerTable.fits c.args.self.now.table.now) (ids c.args.tuple));
+      passed = λ b. subst (Passed g.T.Theory g.P.PartnerTable (view c.args.self.now) c.args.attempt.number c.args.attempt.head c.args.attempt.active (ids c.args.tuple)) (sym (ap (λ v. v.above) e ∙ o.above)) (passed_none b (g.met.P.PartnerTable.fits c.args.self.now.table.now));
     }
 
 pub first_from-found-requires : goal.first_from-found-requires
@@ -68,14 +67,13 @@ loop-identifier-preserved-else-is_some g t c =
     let s = c.in-Some.ensures.steps in
     record {
       visit = gone_on g.P.PartnerTable i.visit s;
-      passed = λ b. subst (Passed g.T.Theory g.P.PartnerTable (view c.args.self.now) c.args.attempt.number c.args.attempt.head c.args.attempt.active (ids c.args.tuple)) (sym s.above)
-          (
+      passed = λ b.
           let eq = c.as_slice-heads.ensures.value ∙ heads_are c.args.attempt.rule.now in
           let lt = room_for eq c.as_slice-place.ensures.value c.if-place-heads.false in
           let ne : length (ids c.args.tuple) ≡ c.args.attempt.head → ⊥ = λ e. c.if-place-attempt.false (ap length c.as_slice-place.ensures.value ∙ e) in
           let sy = head_symbol eq c.as_slice-place.ensures.value in
           let wi = with_one (ids c.args.tuple) c.in-Some.identifier lt c.args.attempt.few c.with-then-may_fill.ensures in
-          passed_more g.T.Theory g.P.PartnerTable (view c.args.self.now) c.args.attempt.number c.args.attempt.head c.args.attempt.active (ids c.args.tuple) c.in-Some.identifier (passed_below b lt sy c.loop-identifier.identifier-iterator.above c.in-Some.identifier (c.loop-identifier.invariant.passed b) (next_step g.P.PartnerTable c.loop-identifier.invariant.visit c.in-Some.ensures.steps)) (tried_any g.T.Theory g.P.PartnerTable (view c.args.self.now) c.args.attempt.number c.args.attempt.head c.args.attempt.active ids (ids c.args.tuple) c.in-Some.identifier c.first_from-found.result (sym c.is_some.ensures ∙ c.if-is_some.false) (found_from wi (option_map ids c.first_from-found.result) c.first_from-found.ensures (fill_begun b lt sy c.in-Some.identifier ne c.if-may_fill.ensures))));
+          passed_on b lt sy c.loop-identifier.identifier-iterator.above c.in-Some.identifier s.above (i.passed b) (next_step g.P.PartnerTable i.visit s) (tried_any b ids c.in-Some.identifier c.first_from-found.result (sym c.is_some.ensures ∙ c.if-is_some.false) (found_from wi (option_map ids c.first_from-found.result) c.first_from-found.ensures (fill_begun b lt sy c.in-Some.identifier ne c.if-may_fill.ensures)));
     }
 
 pub loop-identifier-preserved : goal.loop-identifier-preserved
@@ -84,13 +82,12 @@ loop-identifier-preserved g t c =
     let s = c.in-Some.ensures.steps in
     record {
       visit = gone_on g.P.PartnerTable i.visit s;
-      passed = λ b. subst (Passed g.T.Theory g.P.PartnerTable (view c.args.self.now) c.args.attempt.number c.args.attempt.head c.args.attempt.active (ids c.args.tuple)) (sym s.above)
-          (
+      passed = λ b.
           let eq = c.as_slice-heads.ensures.value ∙ heads_are c.args.attempt.rule.now in
           let lt = room_for eq c.as_slice-place.ensures.value c.if-place-heads.false in
           let ne : length (ids c.args.tuple) ≡ c.args.attempt.head → ⊥ = λ e. c.if-place-attempt.false (ap length c.as_slice-place.ensures.value ∙ e) in
           let sy = head_symbol eq c.as_slice-place.ensures.value in
-          passed_more g.T.Theory g.P.PartnerTable (view c.args.self.now) c.args.attempt.number c.args.attempt.head c.args.attempt.active (ids c.args.tuple) c.in-Some.identifier (passed_below b lt sy c.loop-identifier.identifier-iterator.above c.in-Some.identifier (c.loop-identifier.invariant.passed b) (next_step g.P.PartnerTable c.loop-identifier.invariant.visit c.in-Some.ensures.steps)) (unfit b lt sy c.in-Some.identifier ne c.if-may_fill.ensures));
+          passed_on b lt sy c.loop-identifier.identifier-iterator.above c.in-Some.identifier s.above (i.passed b) (next_step g.P.PartnerTable i.visit s) (unfit b lt sy c.in-Some.identifier ne c.if-may_fill.ensures);
     }
 
 pub returns : goal.returns
