@@ -25,12 +25,12 @@ const ROWS: usize = 256;
 // Links are places, since nothing is allocated after opening, and lie beside the rows, since the rows of other tables have none.
 #[derive(Drop)]
 pub struct ChainTable {
-    rows: Rows<ROWS>,
+    rows: Rows,
     /// The place of the next row of the same symbol, for each row.
     links: Vec<Option<usize>>,
     /// The place of the first row of each symbol.
     heads: [Option<usize>; SYMBOLS],
-    ghost wide: { 256 ≤ vec_capacity links },
+    ghost wide: { (rows.limit ≡ 256) × (256 ≤ vec_capacity links) },
     ghost linked: { ∥ Linked rows.items.items links.items heads ∥₁ },
 }
 
@@ -39,7 +39,7 @@ impl ChainTable {
         ensures { IfOk result (λ t. look t.rows.items.items ≡ nothing) }
     {
         Ok(ChainTable {
-            rows: Rows::new(heap)?,
+            rows: Rows::new(heap, ROWS)?,
             links: Vec::with_capacity(heap, ROWS)?,
             heads: [None; SYMBOLS],
         })
@@ -110,7 +110,7 @@ impl PartnerTable for ChainTable {
 
     ghost fits = { λ t i. look_fits t.rows.items.items t.rows.ok.0 i };
 
-    ghost within = { λ t. omega (arith, size_look t.rows.items.items t.rows.ok.0, t.rows.items.ok.0, t.rows.ok) };
+    ghost within = { λ t. omega (arith, size_look t.rows.items.items t.rows.ok.0, t.rows.items.ok.0, t.rows.ok, t.wide) };
 
     fn capacity(&self) -> usize {
         ROWS

@@ -1,5 +1,5 @@
 -- A put into a front, by where it goes.
-use Rattle.std.proofs.Common.{◌≡◌, ℕ, zero, suc, ◌+◌, ◌<◌, ◌≤◌, min, Bool, true, false, not, ◌&&◌, ltb, ◌⊎◌, List, [], ◌∷◌, ◌++◌, length, take, is_some, Some, None, Option, Ok, Err, Result, sym, refl, ap, ◌∙◌, subst, inl, inr, arith, length-take}
+use Rattle.std.proofs.Common.{◌≡◌, ℕ, zero, suc, ◌+◌, ◌<◌, ◌≤◌, min, Bool, true, false, not, ◌&&◌, ltb, ◌⊎◌, List, [], ◌∷◌, ◌++◌, length, take, drop, is_some, Some, None, Option, Ok, Err, Result, sym, refl, ap, ◌∙◌, subst, inl, inr, arith, take-append-drop, length-take}
 use Rattle.std.proofs.lemmas.Bool.{cases_lt, lt-ltb, le-ltb}
 use Rattle.std.proofs.lemmas.List.{take_all, length_push}
 use Rattle.std.proofs.lemmas.List.Edits.{length-remove}
@@ -9,7 +9,7 @@ use Rattle.table.specs.Rows.{look, lawful, Placed, TakenOut}
 use Rattle.table.specs.Tables.{Table, size, both, without, put_answer, put_after, judged}
 use Rattle.table.specs.declared.put.PutRefusal.{PutRefusal}
 use Rattle.table.specs.declared.row.Row.{Row}
-use Rattle.table.specs.Looks.{size_look, lawful_take}
+use Rattle.table.specs.Looks.{look_append, size_look, lawful_take}
 use Rattle.table.proofs.Positions.{taken_some}
 use Rattle.table.specs.TablesLemmas.{none_append, size_both, without_both}
 use Rattle.front.specs.Fronts.{own_limit, front_limit, own_records, front_records, OwnFirst}
@@ -37,26 +37,33 @@ taken_length xs ys n None p = omega (arith, ap length p.1)
 taken_length xs ys n (Some k) p = omega (arith, ap length p.2, length-remove xs k p.0)
 
 -- few rows are all its own
-pub own_all : (limit : ℕ) (xs : List Row) → length xs ≤ own_limit limit → own_records limit xs ≡ look xs
+own_all : (limit : ℕ) (xs : List Row) → length xs ≤ own_limit limit → own_records limit xs ≡ look xs
 own_all limit xs l = ap look (take_all (own_limit limit) xs l)
+
+-- what stands in its own rows stands among the rows
+own_known : (limit : ℕ) (xs : List Row) (n : ℕ) → is_none (own_records limit xs n) ≡ false → is_none (look xs n) ≡ false
+own_known limit xs n e =
+    let k = own_limit limit in
+    ap (λ zs. is_none (look zs n)) (sym (take-append-drop k xs)) ∙ ap is_none (look_append (take k xs) (drop k xs) n) ∙ none_append (look (take k xs) n) (look (drop k xs) n)
+    ∙ ap (λ b. b && is_none (look (drop k xs) n)) e
 
 pub own_size : (limit : ℕ) (xs : List Row) → lawful xs ≡ true → size (own_records limit xs) ≡ min (own_limit limit) (length xs)
 own_size limit xs h = size_look (take (own_limit limit) xs) (lawful_take xs (own_limit limit) h) ∙ length-take (own_limit limit) xs
 
 -- under an identifier that has a record of its own
-pub filled_known : (limit : ℕ) (xs ys : List Row) (b : Table) (l n : ℕ) (r : Record) (a : Result (Unit {0}) PutRefusal) → length xs ≤ own_limit limit → is_none (look xs n) ≡ false → a ≡ put_answer (look xs) l n r → Placed xs ys n r a → Filled limit xs ys b b n r a
-filled_known limit xs ys b l n r a few e h p =
+pub filled_known : (limit : ℕ) (xs ys : List Row) (b : Table) (l n : ℕ) (r : Record) (a : Result (Unit {0}) PutRefusal) → is_none (own_records limit xs n) ≡ false → a ≡ put_answer (look xs) l n r → Placed xs ys n r a → Filled limit xs ys b b n r a
+filled_known limit xs ys b l n r a e h p =
     let s = own_records limit xs in
-    let known : is_none (s n) ≡ false = ap (λ t. is_none (t n)) (own_all limit xs few) ∙ e in
-    let same : ys ≡ xs = placed_kept xs ys (look xs) l n r r a e h p in
-    let none_both : is_none (both s b n) ≡ false = none_append (s n) (b n) ∙ ap (λ x. x && is_none (b n)) known in
+    let all_known = own_known limit xs n e in
+    let same : ys ≡ xs = placed_kept xs ys (look xs) l n r r a all_known h p in
+    let none_both : is_none (both s b n) ≡ false = none_append (s n) (b n) ∙ ap (λ x. x && is_none (b n)) e in
     let own_same : own_records limit ys ≡ s = ap (own_records limit) same in
     record {
-      value = h ∙ same_known (look xs) (both s b) l (front_limit limit) n r e none_both;
-      after = ap (λ t. both t b) own_same ∙ sym (known_kept (look xs) l n r (both s b) r a e h);
+      value = h ∙ same_known (look xs) (both s b) l (front_limit limit) n r all_known none_both;
+      after = ap (λ t. both t b) own_same ∙ sym (known_kept (look xs) l n r (both s b) r a all_known h);
       order = record {
-        while_free = λ _. (own_same ∙ sym (known_kept (look xs) l n r s r a e h), refl);
-        then_behind = λ _. (own_same, sym (known_kept (look xs) l n r b r a e h));
+        while_free = λ _. (own_same ∙ sym (known_kept (look xs) l n r s r a all_known h), refl);
+        then_behind = λ _. (own_same, sym (known_kept (look xs) l n r b r a all_known h));
       };
     }
 
@@ -84,10 +91,9 @@ filled_free limit xs ys b l n r a lawful_xs none free room within h p after =
     and_true false = refl
 
 -- behind, where a record stands there already, or where its own rows are all in use
-pub filled_behind : (limit : ℕ) (xs : List Row) (b b' : Table) (n : ℕ) (r : Record) (a : Result (Unit {0}) PutRefusal) → lawful xs ≡ true → length xs ≤ own_limit limit → look xs n ≡ [] → (is_none (b n) ≡ false) ⊎ (own_limit limit ≤ length xs) → a ≡ put_answer b limit n r → b' ≡ put_after b n r a → Filled limit xs xs b b' n r a
-filled_behind limit xs b b' n r a lawful_xs few empty why h after =
+pub filled_behind : (limit : ℕ) (xs : List Row) (b b' : Table) (n : ℕ) (r : Record) (a : Result (Unit {0}) PutRefusal) → lawful xs ≡ true → own_records limit xs n ≡ [] → (is_none (b n) ≡ false) ⊎ (own_limit limit ≤ length xs) → a ≡ put_answer b limit n r → b' ≡ put_after b n r a → Filled limit xs xs b b' n r a
+filled_behind limit xs b b' n r a lawful_xs none why h after =
     let s = own_records limit xs in
-    let none : s n ≡ [] = ap (λ t. t n) (own_all limit xs few) ∙ empty in
     let behind_none : is_none (b n) ≡ is_none (both s b n) = ap (λ zs. is_none (zs ++ b n)) (sym none) in
     record {
       value = h ∙ elim why [
@@ -111,21 +117,16 @@ filled_behind limit xs b b' n r a lawful_xs few empty why h after =
     ]
 
 -- an identifier is taken out of both parts
-pub taken_both : (limit : ℕ) (xs ys : List Row) (b b' : Table) (n : ℕ) (o : Option ℕ) → length xs ≤ own_limit limit → TakenOut xs ys n o → look ys ≡ without (look xs) (n ∷ []) → b' ≡ without b (n ∷ []) → front_records limit ys b' ≡ without (front_records limit xs b) (n ∷ [])
-taken_both limit xs ys b b' n o few p own behind =
-    let short : length ys ≤ own_limit limit = omega (arith, taken_length xs ys n o p) in
-    ap (λ t. both t b') (own_all limit ys short ∙ own ∙ ap (λ t. without t (n ∷ [])) (sym (own_all limit xs few)))
+pub taken_both : (limit : ℕ) (xs mid ys : List Row) (b b' : Table) (k n : ℕ) (o : Option ℕ) → mid ≡ take k xs → k ≡ own_limit limit → TakenOut mid ys n o → look ys ≡ without (look mid) (n ∷ []) → b' ≡ without b (n ∷ []) → front_records limit ys b' ≡ without (front_records limit xs b) (n ∷ [])
+taken_both limit xs mid ys b b' k n o e f p own behind =
+    let short : length ys ≤ own_limit limit = omega (arith, taken_length mid ys n o p, ap length e, length-take k xs) in
+    ap (λ t. both t b') (own_all limit ys short ∙ own ∙ ap (λ zs. without (look zs) (n ∷ [])) (e ∙ ap (λ j. take j xs) f))
     ∙ ap (both (without (own_records limit xs) (n ∷ []))) behind
     ∙ without_both (own_records limit xs) b (n ∷ [])
 
 -- whether there was anything in its own rows
-pub taken_own : (limit : ℕ) (xs ys : List Row) (n : ℕ) (o : Option ℕ) → length xs ≤ own_limit limit → TakenOut xs ys n o → is_some o ≡ not (is_none (own_records limit xs n))
-taken_own limit xs ys n o few p = taken_some xs ys n o p ∙ ap (λ t. not (is_none (t n))) (sym (own_all limit xs few))
-
--- rows are no more than its own after a put into them that found one there, or found one free
-pub placed_few : (limit : ℕ) (xs ys : List Row) (l n : ℕ) (r : Record) (a : Result (Unit {0}) PutRefusal) → length xs ≤ own_limit limit → (is_none (look xs n) ≡ false) ⊎ (length xs < own_limit limit) → a ≡ put_answer (look xs) l n r → Placed xs ys n r a → length ys ≤ own_limit limit
-placed_few limit xs ys l n r a few (inl e) h p = omega (arith, ap length (placed_kept xs ys (look xs) l n r r a e h p))
-placed_few limit xs ys l n r a few (inr free) h p = omega (arith, placed_length xs ys n r a p)
+pub taken_own : (limit : ℕ) (xs mid ys : List Row) (k n : ℕ) (o : Option ℕ) → mid ≡ take k xs → k ≡ own_limit limit → TakenOut mid ys n o → is_some o ≡ not (is_none (own_records limit xs n))
+taken_own limit xs mid ys k n o e f p = taken_some mid ys n o p ∙ ap (λ zs. not (is_none (look zs n))) (e ∙ ap (λ j. take j xs) f)
 
 -- the first of none are none
 pub take_none : {A : Type 0} (k : ℕ) → take {A = A} k [] ≡ []

@@ -1,7 +1,7 @@
 // A partner table with a few rows of its own before another partner table.
 #![tactic(auto)]
 
-ghost use Rattle.std.specs.Prelude.{◌≡◌, ◌≤◌, true, take, IfOk, vec_len};
+ghost use Rattle.std.specs.Prelude.{◌≡◌, true, take, IfOk};
 ghost use Rattle.front.specs.Fronts.{own_limit, front_limit, own_records, front_records, OwnFirst};
 ghost use Rattle.table.specs.Records.{recorded, fit};
 ghost use Rattle.table.specs.Tables.{nothing, size, put_answer, put_after};
@@ -15,6 +15,7 @@ ghost use Rattle.table.specs.TablesLemmas.{size_both};
 use std::alloc::{AllocError, Global};
 use table::partner::PartnerTable;
 use table::put::PutRefusal;
+use table::row::Row;
 use table::rows;
 use table::rows::Rows;
 use terms::Operand;
@@ -26,11 +27,13 @@ const OWN: usize = 32;
 const MOST: usize = 4_096;
 
 /// A partner table of 32 rows before another, or fewer where the two would pass 4,096. It fills its own rows first.
+// No row is ever put past its own, but the type does not say so: a ghost field that cites the table behind needs a bound on `P`, here and then in each generic type over a front.
 #[derive(Drop)]
-pub struct FrontTable<P: PartnerTable> {
-    own: Rows<OWN>,
+pub struct FrontTable<P> {
+    /// Its own rows are the first of these, as many as it has.
+    own: Rows,
     behind: P,
-    ghost few: { vec_len own.items ≤ own_limit P.PartnerTable.limit },
+    ghost wide: { own.limit ≡ 32 },
 }
 
 impl<P: PartnerTable + Drop> FrontTable<P> {
@@ -39,7 +42,7 @@ impl<P: PartnerTable + Drop> FrontTable<P> {
         ensures { IfOk result (λ t. (own_records P.PartnerTable.limit t.own.items.items ≡ nothing) × (t.behind ≡ behind)) }
     {
         Ok(FrontTable {
-            own: Rows::new(heap)?,
+            own: Rows::new(heap, OWN)?,
             behind,
         })
     }
@@ -57,7 +60,15 @@ impl<P: PartnerTable> FrontTable<P> {
     pub fn own_count(&self) -> usize
         ensures { result ≡ size (own_records P.PartnerTable.limit self.now.own.items.items) }
     {
-        self.own.count()
+        self.own_rows().len()
+    }
+
+    /// Its own rows that are in use.
+    fn own_rows(&self) -> &[Row]
+        ensures { result.now ≡ take (own_limit P.PartnerTable.limit) self.now.own.items.items }
+    {
+        let rows = self.own.as_slice();
+        &rows[..self.own_capacity().min(rows.len())]
     }
 
     /// Adds a record as `put` does: to its own rows while one is free, else to the table behind.
@@ -71,7 +82,7 @@ impl<P: PartnerTable> FrontTable<P> {
         ensures after { ⟦<FrontTable<P> as PartnerTable>⟧.records self.new ≡ put_after (⟦<FrontTable<P> as PartnerTable>⟧.records self.old) identifier (recorded symbol arguments.now) result }
         ensures order { OwnFirst P.PartnerTable.limit (own_records P.PartnerTable.limit self.old.own.items.items) (P.PartnerTable.records self.old.behind) (own_records P.PartnerTable.limit self.new.own.items.items) (P.PartnerTable.records self.new.behind) identifier (recorded symbol arguments.now) result }
     {
-        let known = rows::position(self.own.as_slice(), identifier).is_some();
+        let known = rows::position(self.own_rows(), identifier).is_some();
         let elsewhere = self.behind.symbol(identifier).is_some();
         let free = self.own_count() < self.own_capacity();
         if known || (free && !elsewhere) {
@@ -125,23 +136,25 @@ impl<P: PartnerTable> PartnerTable for FrontTable<P> {
     }
 
     fn remove(&mut self, identifier: u32) -> bool {
+        let count = self.own_capacity();
+        self.own.truncate(count);
         let own = self.own.remove(identifier).is_some();
         let behind = self.behind.remove(identifier);
         own | behind
     }
 
     fn next(&self, symbol: Option<u8>, key: Option<i32>, above: u32) -> Option<u32> {
-        let own = rows::next(self.own.as_slice(), symbol, key, above);
+        let own = rows::next(self.own_rows(), symbol, key, above);
         let behind = self.behind.next(symbol, key, above);
         rows::lower(own, behind)
     }
 
     fn symbol(&self, identifier: u32) -> Option<u8> {
-        rows::symbol(self.own.as_slice(), identifier).or_else(|| self.behind.symbol(identifier))
+        rows::symbol(self.own_rows(), identifier).or_else(|| self.behind.symbol(identifier))
     }
 
     fn argument(&self, identifier: u32, place: usize) -> Option<Operand> {
-        let rows = self.own.as_slice();
+        let rows = self.own_rows();
         if rows::position(rows, identifier).is_some() {
             rows::argument(rows, identifier, place)
         } else {

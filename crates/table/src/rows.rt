@@ -16,19 +16,22 @@ pub const SYMBOLS: usize = 32;
 /// The greatest identifier.
 pub const GREATEST_IDENTIFIER: u32 = 1_000_000;
 
-/// At most `LIMIT` rows, in any order, no two with one identifier; there is memory for all from the start.
+/// At most `limit` rows, in any order, no two with one identifier; there is memory for all from the start.
 #[derive(Drop)]
-pub struct Rows<const LIMIT: usize> {
+pub struct Rows {
     items: Vec<Row>,
-    ghost ok: { (lawful items.items ≡ true) × (vec_len items ≤ LIMIT) × (LIMIT ≤ vec_capacity items) },
+    // A field and no const parameter: a caller may know the limit at run time only.
+    limit: usize,
+    ghost ok: { (lawful items.items ≡ true) × (vec_len items ≤ limit) × (limit ≤ vec_capacity items) },
 }
 
-impl<const LIMIT: usize> Rows<LIMIT> {
-    pub fn new(heap: Global) -> Result<Self, AllocError>
-        ensures { IfOk result (λ v. v.items.items ≡ []) }
+impl Rows {
+    pub fn new(heap: Global, limit: usize) -> Result<Rows, AllocError>
+        ensures { IfOk result (λ v. (v.items.items ≡ []) × (v.limit ≡ limit)) }
     {
         Ok(Rows {
-            items: Vec::with_capacity(heap, LIMIT)?,
+            items: Vec::with_capacity(heap, limit)?,
+            limit,
         })
     }
 
@@ -40,9 +43,9 @@ impl<const LIMIT: usize> Rows<LIMIT> {
 
     /// The most rows that it holds.
     pub fn limit(&self) -> usize
-        ensures { result ≡ LIMIT }
+        ensures { result ≡ self.now.limit }
     {
-        LIMIT
+        self.limit
     }
 
     pub fn count(&self) -> usize
@@ -52,7 +55,8 @@ impl<const LIMIT: usize> Rows<LIMIT> {
     }
 
     pub fn clear(&mut self)
-        ensures { self.new.items.items ≡ [] }
+        ensures items { self.new.items.items ≡ [] }
+        ensures limit { self.new.limit ≡ self.old.limit }
     {
         self.items.clear();
     }
@@ -64,15 +68,16 @@ impl<const LIMIT: usize> Rows<LIMIT> {
         symbol: u8,
         arguments: &[Operand],
     ) -> Result<(), PutRefusal>
-        ensures value { result ≡ put_answer (look self.old.items.items) LIMIT identifier (recorded symbol arguments.now) }
+        ensures value { result ≡ put_answer (look self.old.items.items) self.old.limit identifier (recorded symbol arguments.now) }
         ensures after { look self.new.items.items ≡ put_after (look self.old.items.items) identifier (recorded symbol arguments.now) result }
         ensures items { Placed self.old.items.items self.new.items.items identifier (recorded symbol arguments.now) result }
+        ensures limit { self.new.limit ≡ self.old.limit }
     {
         let row = Row::new(identifier, symbol, arguments).ok_or(PutRefusal::Unfit)?;
         if position(self.as_slice(), identifier).is_some() {
             return Err(PutRefusal::Twice);
         }
-        if self.count() >= LIMIT {
+        if self.count() >= self.limit {
             return Err(PutRefusal::Full);
         }
         self.items.push_reserved(row);
@@ -83,6 +88,7 @@ impl<const LIMIT: usize> Rows<LIMIT> {
     pub fn remove(&mut self, identifier: u32) -> Option<usize>
         ensures place { TakenOut self.old.items.items self.new.items.items identifier result }
         ensures after { look self.new.items.items ≡ without (look self.old.items.items) (identifier ∷ []) }
+        ensures limit { self.new.limit ≡ self.old.limit }
     {
         let place = position(self.as_slice(), identifier)?;
         let _ = self.items.remove(place);
@@ -91,7 +97,8 @@ impl<const LIMIT: usize> Rows<LIMIT> {
 
     /// Leaves so many rows at most.
     pub fn truncate(&mut self, count: usize)
-        ensures { self.new.items.items ≡ take count self.old.items.items }
+        ensures items { self.new.items.items ≡ take count self.old.items.items }
+        ensures limit { self.new.limit ≡ self.old.limit }
     {
         self.items.truncate(count);
     }

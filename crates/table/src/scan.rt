@@ -16,7 +16,8 @@ const ROWS: usize = 256;
 /// A partner table of 256 rows that looks at each row.
 #[derive(Drop)]
 pub struct ScanTable {
-    rows: Rows<ROWS>,
+    rows: Rows,
+    ghost wide: { rows.limit ≡ 256 },
 }
 
 impl ScanTable {
@@ -24,7 +25,7 @@ impl ScanTable {
         ensures { IfOk result (λ t. look t.rows.items.items ≡ nothing) }
     {
         Ok(ScanTable {
-            rows: Rows::new(heap)?,
+            rows: Rows::new(heap, ROWS)?,
         })
     }
 }
@@ -41,7 +42,7 @@ impl PartnerTable for ScanTable {
 
     ghost fits = { λ t i. look_fits t.rows.items.items t.rows.ok.0 i };
 
-    ghost within = { λ t. omega (arith, size_look t.rows.items.items t.rows.ok.0, t.rows.items.ok.0, t.rows.ok) };
+    ghost within = { λ t. omega (arith, size_look t.rows.items.items t.rows.ok.0, t.rows.items.ok.0, t.rows.ok, t.wide) };
 
     fn capacity(&self) -> usize {
         ROWS

@@ -20,7 +20,7 @@ invariant_of-self-2-clause-linked c =
     let s = c.args.symbol in
     let m = c.count-place.result in
     let r = recorded s c.args.arguments.now in
-    let known = when_added (look xs) 256 n r c.in_ok-put.ensures.value in
+    let known = when_added (look xs) t.rows.limit n r c.in_ok-put.ensures.value in
     let m_is = c.count-place.ensures ∙ size_look xs t.rows.ok.0 in
     elim c.match-last.branch [
       | in-Some w ↦

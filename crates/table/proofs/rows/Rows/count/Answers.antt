@@ -3,4 +3,4 @@ use Rattle.table.specs.Looks.{size_look}
 use Rattle.table.proofs.rows.Rows.count.Goals as goal
 
 pub returns : goal.returns
-returns g c = c.len.ensures ∙ c.args.self.now.items.ok.0 ∙ sym (size_look _ c.args.self.now.ok.0)
+returns c = c.len.ensures ∙ c.args.self.now.items.ok.0 ∙ sym (size_look _ c.args.self.now.ok.0)

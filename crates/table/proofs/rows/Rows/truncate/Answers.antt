@@ -4,7 +4,7 @@ use Rattle.table.specs.Looks.{lawful_take}
 use Rattle.table.proofs.rows.Rows.truncate.Goals as goal
 
 pub invariant_of-self : goal.invariant_of-self
-invariant_of-self g c =
+invariant_of-self c =
     let rows = c.args.self.now in
     record {
       ok = (
