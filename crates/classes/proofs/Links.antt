@@ -21,11 +21,6 @@ pub held_read : {C : Type 0} (H : C → ℤ → Type 0) (rows : List (ClassRow C
     i < length rows → d ≡ get_or rows i d → held_at H rows i z ≡ H d.content z
 held_read H rows i d z l e = field_read (λ r. H r.content z) rows i d ⊥ l e
 
--- a root holds its value
-pub top_held : {C : Type 0} (H : C → ℤ → Type 0) (rows : List (ClassRow C)) (r : ℕ) (d : ClassRow C) → IsRoot rows r → d ≡ get_or rows r d →
-    (v : ℕ → ℤ) → Admits H rows v → H d.content (v r)
-top_held H rows r d k e v f = along (held_read H rows r d (v r) k.0 e) ((f.1 r k.0).1 k.1)
-
 -- what a meeting holds
 pub meets : {C : Type 0} (H : C → ℤ → Type 0) → ((c : C) (z : ℤ) → H c z → IsValue z) → (P : ℤ → Type 0) (a c : C) →
     Holding H (λ z. H a z × P z) (Some c) → (z : ℤ) → H c z ↔ (H a z × P z)

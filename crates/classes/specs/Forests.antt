@@ -1,5 +1,5 @@
 -- What a forest of classes allows: its rows, and a flag that it has failed. Assumes nothing.
-use Rattle.std.specs.Prelude.{◌≡◌, ℕ, ◌+◌, ◌<◌, ◌≤◌, false, ◌↔◌, ℤ, ◌≤ℤ◌, Some, None, vec_items, vec_len, Option, Result, Ok, Err}
+use Rattle.std.specs.Prelude.{◌≡◌, ℕ, ◌+◌, ◌<◌, ◌≤◌, true, false, ◌↔◌, ℤ, ◌≤ℤ◌, Some, None, vec_items, vec_len, Option, Result, Ok, Err}
 use Rattle.classes.specs.declared.forest.Forest.{Forest}
 use Rattle.classes.specs.Rows.{RootSays, Admits, Valued, Contained}
 
@@ -41,6 +41,15 @@ pub record Narrowed {C : Type 0} (H : C → ℤ → Type 0) (f : Forest C) (P : 
 abbrev pub Narrows : {A E C : Type 0} → (C → ℤ → Type 0) → Forest C → Type 0 → ((ℕ → ℤ) → Type 0) → Result A E → Forest C → Type 0
 Narrows H f made P (Ok _) g = made × Narrowed H f P g
 Narrows H f made P (Err _) g = (made → ⊥) × (g ≡ f)
+
+-- a forest that has failed keeps the rows that were there
+abbrev pub KeepsRows : {C : Type 0} → Forest C → Forest C → Type 0
+KeepsRows f g = g.failed ≡ true → g.rows ≡ f.rows
+
+-- whether a variable is made, or a refusal
+abbrev pub MadeSays : {A E C : Type 0} → Forest C → ℕ → Result A E → Type 0
+MadeSays f x (Ok _) = x < made_in f
+MadeSays f x (Err _) = made_in f ≤ x
 
 -- the root of a made variable's class, or a refusal
 abbrev pub RootFound : {C E : Type 0} → Forest C → ℕ → Result ℕ E → Type 0

@@ -12,13 +12,13 @@ use classes::forest::{Forest, NotMade};
 use contents::content::Content;
 use terms::{Operand, Primitive};
 
-/// What a primitive says of variables: that two are the same, that one lies in a content (in none, where there is
-/// none), or something that no variable touches.
+/// What a primitive says: that two variables are the same, that one lies in a content (in none, where there is none),
+/// or that a number does, which no variable touches.
 #[derive(Clone, Copy)]
 pub(crate) enum Claim<C> {
     Alike(u8, u8),
     Within(u8, Option<C>),
-    Plain(bool),
+    Plain(i32, Option<C>),
 }
 
 impl<C: Interpreted> From<Primitive<Operand>> for Claim<C> {
@@ -40,8 +40,8 @@ pub(crate) fn restrict<C: Content>(forest: &mut Forest<C>, claim: Claim<C>) -> R
     match claim {
         Claim::Alike(x, y) => forest.join(x, y),
         Claim::Within(x, by) => forest.confine(x, by),
-        Claim::Plain(holds) => {
-            forest.keep(holds);
+        Claim::Plain(n, by) => {
+            forest.keep(contains(by, n));
             Ok(())
         }
     }
@@ -54,7 +54,7 @@ pub(crate) fn entails<C: Content>(forest: &Forest<C>, claim: Claim<C>) -> bool
     match claim {
         Claim::Alike(x, y) => forest.same(x, y),
         Claim::Within(x, by) => forest.lies_in(x, by),
-        Claim::Plain(holds) => holds || forest.failed(),
+        Claim::Plain(n, by) => forest.failed() || contains(by, n),
     }
 }
 
@@ -75,7 +75,7 @@ fn within<C: Interpreted>(a: Operand, by: Option<C>) -> Claim<C>
 {
     match a {
         Operand::Variable(x) => Claim::Within(x, by),
-        Operand::Value(n) => Claim::Plain(contains(by, n)),
+        Operand::Value(n) => Claim::Plain(n, by),
     }
 }
 
@@ -83,8 +83,11 @@ fn within<C: Interpreted>(a: Operand, by: Option<C>) -> Claim<C>
 fn contains<C: Content>(by: Option<C>, n: i32) -> bool
     ensures { Answers result (HeldIn C.Content.holds by n) }
 {
-    match (by, C::only(n)) {
-        (Some(all), Some(one)) => one.is_within(all),
-        (None, _) | (_, None) => false,
+    let Some(all) = by else {
+        return false;
+    };
+    match C::only(n) {
+        Some(one) => one.is_within(all),
+        None => false,
     }
 }

@@ -1,10 +1,9 @@
 //! What a forest is told and asked.
 
-ghost use Rattle.std.specs.Prelude.{◌≡◌, ◌<◌, true, IfOk, ◌≢◌};
+ghost use Rattle.std.specs.Prelude.{◌≡◌, ◌<◌, true, IfOk};
 ghost use Rattle.terms.specs.Answers.{Answers};
 ghost use Rattle.contents.specs.Contents.{HeldIn};
-ghost use Rattle.classes.specs.Rows.{IsRoot};
-ghost use Rattle.classes.specs.Forests.{made_in, Barren, Fresh, Grows, Narrowed, Narrows, Throughout, LeastSays, GreatestSays, OneValue, RootFound, HeldSays, RangeSays};
+ghost use Rattle.classes.specs.Forests.{made_in, Barren, Fresh, Grows, Narrowed, Narrows, KeepsRows, Throughout, LeastSays, GreatestSays, OneValue, MadeSays, RootFound, HeldSays, RangeSays};
 
 use super::{Forest, NotMade};
 use crate::pair::{is_one_value, meeting};
@@ -77,20 +76,38 @@ impl<C: Content> Forest<C> {
 
     /// Leaves the valuations in which `a` and `b` are the same; refuses, and changes nothing, if one of them is not made.
     pub fn join(&mut self, a: u8, b: u8) -> Result<(), NotMade>
-        ensures { Narrows C.Content.holds self.old ((a < made_in self.old) × (b < made_in self.old)) (λ v. v a ≡ v b) result self.new }
+        ensures narrows { Narrows C.Content.holds self.old ((a < made_in self.old) × (b < made_in self.old)) (λ v. v a ≡ v b) result self.new }
+        ensures kept { KeepsRows self.old self.new }
     {
+        if self.failed {
+            self.made(a)?;
+            return self.made(b);
+        }
         let one = self.root(a)?;
         let other = self.root(b)?;
-        if one != other {
-            self.unite(one, other);
+        if one == other {
+            return Ok(());
+        }
+        let left = self.rows[one as usize].content;
+        let right = self.rows[other as usize].content;
+        match left.meet(right) {
+            None => self.failed = true,
+            Some(content) if is_below(&self.rows, one, other) => {
+                link(&mut self.rows, one, other, content);
+            }
+            Some(content) => link(&mut self.rows, other, one, content),
         }
         Ok(())
     }
 
     /// Leaves the valuations in which `by` holds the value of `x`; refuses, and changes nothing, if `x` is not made.
     pub fn confine(&mut self, x: u8, by: Option<C>) -> Result<(), NotMade>
-        ensures { Narrows C.Content.holds self.old (x < made_in self.old) (λ v. HeldIn C.Content.holds by (v x)) result self.new }
+        ensures narrows { Narrows C.Content.holds self.old (x < made_in self.old) (λ v. HeldIn C.Content.holds by (v x)) result self.new }
+        ensures kept { KeepsRows self.old self.new }
     {
+        if self.failed {
+            return self.made(x);
+        }
         let top = self.root(x)?;
         match meeting(self.rows[top as usize].content, by) {
             Some(content) => self.rows[top as usize].content = content,
@@ -103,12 +120,15 @@ impl<C: Content> Forest<C> {
     pub fn same(&self, a: u8, b: u8) -> bool
         ensures { Answers result ((a < made_in self.now) × (b < made_in self.now) × Throughout C.Content.holds self.now (λ v. v a ≡ v b)) }
     {
+        if self.failed {
+            return self.made(a).is_ok() && self.made(b).is_ok();
+        }
         match (self.root(a), self.root(b)) {
             (Ok(one), Ok(other)) if one == other => true,
             (Ok(one), Ok(other)) => {
                 let left = self.rows[one as usize].content;
                 let right = self.rows[other as usize].content;
-                self.failed || is_one_value(left, right)
+                is_one_value(left, right)
             }
             _ => false,
         }
@@ -118,9 +138,12 @@ impl<C: Content> Forest<C> {
     pub fn lies_in(&self, x: u8, by: Option<C>) -> bool
         ensures { Answers result ((x < made_in self.now) × Throughout C.Content.holds self.now (λ v. HeldIn C.Content.holds by (v x))) }
     {
+        if self.failed {
+            return self.made(x).is_ok();
+        }
         match (self.held(x), by) {
-            (Ok(held), Some(content)) => self.failed || held.is_within(content),
-            (Ok(_), None) => self.failed,
+            (Ok(held), Some(content)) => held.is_within(content),
+            (Ok(_), None) => false,
             (Err(NotMade), _) => false,
         }
     }
@@ -143,19 +166,30 @@ impl<C: Content> Forest<C> {
     pub fn fixed(&self, x: u8) -> bool
         ensures { Answers result (OneValue C.Content.holds self.now x) }
     {
+        if self.failed {
+            return self.made(x).is_ok();
+        }
         match self.held(x) {
-            Ok(content) => self.failed || content.least() == content.greatest(),
+            Ok(content) => content.least() == content.greatest(),
             Err(NotMade) => false,
         }
+    }
+
+    /// Refuses a variable that is not made.
+    fn made(&self, x: u8) -> Result<(), NotMade>
+        ensures { MadeSays self.now x result }
+    {
+        if x as usize >= self.rows.len() {
+            return Err(NotMade);
+        }
+        Ok(())
     }
 
     /// The root of the class of `x`, if `x` is made.
     fn root(&self, x: u8) -> Result<u8, NotMade>
         ensures { RootFound self.now x result }
     {
-        if x as usize >= self.rows.len() {
-            return Err(NotMade);
-        }
+        self.made(x)?;
         let mut at = x;
         while self.rows[at as usize].parent != at {
             at = self.rows[at as usize].parent;
@@ -175,27 +209,9 @@ impl<C: Content> Forest<C> {
     fn range(&self, x: u8) -> Option<C>
         ensures { RangeSays C.Content.holds self.now x result }
     {
-        match self.held(x) {
-            Ok(content) if !self.failed => Some(content),
-            _ => None,
+        if self.failed {
+            return None;
         }
-    }
-
-    /// Leaves the valuations in which two roots are the same, with what both held for their class.
-    fn unite(&mut self, one: u8, other: u8)
-        requires first { IsRoot self.old.rows.items one }
-        requires second { IsRoot self.old.rows.items other }
-        requires apart { one ≢ other }
-        ensures { Narrowed C.Content.holds self.old (λ v. v one ≡ v other) self.new }
-    {
-        let left = self.rows[one as usize].content;
-        let right = self.rows[other as usize].content;
-        match left.meet(right) {
-            None => self.failed = true,
-            Some(content) if is_below(&self.rows, one, other) => {
-                link(&mut self.rows, one, other, content);
-            }
-            Some(content) => link(&mut self.rows, other, one, content),
-        }
+        self.held(x).ok()
     }
 }

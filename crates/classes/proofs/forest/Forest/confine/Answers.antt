@@ -14,8 +14,8 @@ invariant_of-self g c =
       roomy = c.args.self.now.roomy;
     }
 
-pub returns-in-Some : goal.returns-in-Some
-returns-in-Some g c =
+pub returns-in-Some-clause-narrows : goal.returns-in-Some-clause-narrows
+returns-in-Some-clause-narrows g c =
     let H = g.C.Content.holds in
     let f = c.args.self.now in
     let made = c.in_ok-top.ensures.0 in
@@ -30,8 +30,8 @@ returns-in-Some g c =
           c.index.ensures c.index_mut.ensures.value c.in-Some.ensures)),
     )
 
-pub returns-in-None : goal.returns-in-None
-returns-in-None g c =
+pub returns-in-None-clause-narrows : goal.returns-in-None-clause-narrows
+returns-in-None-clause-narrows g c =
     let H = g.C.Content.holds in
     let f = c.args.self.now in
     let made = c.in_ok-top.ensures.0 in

@@ -2,8 +2,8 @@ use Rattle.std.proofs.Common.{sym, rules}
 use Rattle.classes.proofs.Stores.{range_is, one_value, least_is, greatest_is}
 use Rattle.classes.proofs.forest.Forest.fixed.Goals as goal
 
-pub returns-else-self : goal.returns-else-self
-returns-else-self g c =
+pub returns-in-Ok : goal.returns-in-Ok
+returns-in-Ok g c =
     let H = g.C.Content.holds in
     let laws = g.met.C.Content in
     let f = c.args.self.now in

@@ -9,8 +9,8 @@ returns-in-Ok-Ok g c =
     let b = c.in-Ok-Ok.ensures' in
     (a.0, b.0, λ v k. (at_found g.C.Content.holds c.args.self.now c.args.a c.args.b _ _ a b v k).0 (ap v c.if-one-other.true))
 
-pub returns-else-self : goal.returns-else-self
-returns-else-self g c =
+pub returns-in-Ok-Ok-2 : goal.returns-in-Ok-Ok-2
+returns-in-Ok-Ok-2 g c =
     let laws = g.met.C.Content in
     let f = c.args.self.now in
     let a = c.in-Ok-Ok.ensures in
