@@ -1,6 +1,5 @@
 -- Primitives as claims on a forest of classes.
-use Rattle.std.proofs.Common.{◌≡◌, ℕ, Bool, true, false, ◌↔◌, ℤ, Some, None, Option, sym, refl, subst, w32, SFits, to_z, of_z}
-use Rattle.std.proofs.lemmas.Bool.{false≢true}
+use Rattle.std.proofs.Common.{◌≡◌, ℕ, Bool, ◌↔◌, ℤ, Some, Option, sym, subst, w32, SFits, to_z, of_z}
 use Rattle.std.proofs.lemmas.Int.{to_z-of_z}
 use Rattle.terms.specs.declared.Operand.{Operand}
 use Rattle.terms.specs.declared.Operand.TheVariants.{Value, Variable}
@@ -11,8 +10,6 @@ use Rattle.terms.specs.Values.{IsValue}
 use Rattle.terms.specs.Domains.{TrueIn, worth}
 use Rattle.contents.specs.Contents.{HeldIn, Holding}
 use Rattle.contents.proofs.Signs.{answers_iff}
-use Rattle.classes.specs.declared.forest.Forest.{Forest}
-use Rattle.classes.specs.Forests.{Barren, Throughout}
 use Rattle.classes.specs.Rows.{Valued}
 use Rattle.theory.specs.declared.claim.Claim.{Claim}
 use Rattle.theory.specs.declared.claim.Claim.TheVariants.{Alike}
@@ -24,10 +21,6 @@ use Rattle.theory.specs.Wholes.{Truth, whole}
 pub at_bits : (P : ℤ → Type 0) (n : ℤ) → SFits w32 n → P (to_z w32 (of_z w32 n)) → P n
 at_bits P n f p = subst P (to_z-of_z w32 n f) p
 
-pub answered : (r : Bool) (Q : Type 0) → Answers r Q → (r ≡ true) ↔ Q
-answered true Q a = (λ _. a, λ _. refl)
-answered false Q a = (λ e. absurd (false≢true e), λ q. absurd (a q))
-
 -- only a value is alone in a content, and what holds that content holds it
 module _ {C : Type 0} (H : C → ℤ → Type 0) (low : C → ℤ) (ends : (c : C) → H c (low c)) (proper : (c : C) (z : ℤ) → H c z → IsValue z) where
   pub within_says : (n : ℤ) (o : Option C) (one all : C) (r : Bool) → Holding H (λ z. z ≡ n) (Some one) → o ≡ Some all →
@@ -37,17 +30,6 @@ module _ {C : Type 0} (H : C → ℤ → Type 0) (low : C → ℤ) (ends : (c : 
       let mine : H one n = subst (λ (z : ℤ). H one z) self (ends one) in
       subst (λ (p : Option C). Answers r (HeldIn H p n)) (sym eo)
       (answers_iff r _ _ (λ f. f n mine) (λ h z k. subst (λ (y : ℤ). H all y) (sym ((only z (proper one z k)).0 k)) h) w)
-
-  -- what is alone in no content is no value, and in no content
-  pub held_by_none : (n : ℤ) (o : Option C) (all : C) → Holding H (λ z. z ≡ n) None → o ≡ Some all → HeldIn H o n → ⊥
-  held_by_none n o all only eo h =
-      let k : H all n = subst (λ (p : Option C). HeldIn H p n) eo h in (only n (proper all n k)).1 refl
-
--- a fact that no valuation touches, asked of a forest that allows something
-pub plain_says : {C : Type 0} (H : C → ℤ → Type 0) (f : Forest C) (Q : Type 0) (r : Bool) → (Barren H f → ⊥) → Answers r Q →
-    Answers r (Unit {0} × Throughout H f (λ _. Q))
-plain_says H f Q true some q = (tt, λ v a. q)
-plain_says H f Q false some no_q = λ all. some (λ v a. no_q (all.1 v a))
 
 module _ {C : Type 0} (t : Truth) (H : C → ℤ → Type 0) where
   -- a known operand stands for a value

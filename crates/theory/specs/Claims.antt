@@ -1,5 +1,5 @@
 -- Primitives as claims on a forest of classes. Assumes nothing.
-use Rattle.std.specs.Prelude.{◌≡◌, ℕ, ◌<◌, ◌↔◌, ℤ, Option}
+use Rattle.std.specs.Prelude.{◌≡◌, ℕ, ◌<◌, true, ◌↔◌, ℤ, Option}
 use Rattle.terms.specs.declared.Operand.{Operand}
 use Rattle.terms.specs.declared.Primitive.{Primitive}
 use Rattle.terms.specs.Domains.{TrueIn, worth}
@@ -14,13 +14,13 @@ use Rattle.theory.specs.Wholes.{Truth, whole}
 abbrev pub Claimed : {C : Type 0} → (C → ℤ → Type 0) → Claim C → (ℕ → ℤ) → Type 0
 Claimed H (Alike x y) v = v x ≡ v y
 Claimed H (Within x by) v = HeldIn H by (v x)
-Claimed H (Plain n by) v = HeldIn H by n
+Claimed H (Plain b) v = b ≡ true
 
 -- its variables are made
 abbrev pub OfMade : {C : Type 0} → ℕ → Claim C → Type 0
 OfMade made (Alike x y) = (x < made) × (y < made)
 OfMade made (Within x by) = x < made
-OfMade made (Plain n by) = Unit {0}
+OfMade made (Plain b) = Unit {0}
 
 -- the claim says that what an operand stands for is in what `by` holds
 pub record ClaimsOf {C : Type 0} (t : Truth) (H : C → ℤ → Type 0) (a : Operand) (by : Option C) (c : Claim C) : Type 0 where

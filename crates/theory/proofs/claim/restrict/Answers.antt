@@ -1,11 +1,7 @@
-use Rattle.std.proofs.Common.{ℤ, sym, subst, w32, SFits, rules}
-use Rattle.terms.specs.Answers.{Answers}
-use Rattle.contents.specs.Contents.{HeldIn}
+use Rattle.std.proofs.Common.{sym, subst}
 use Rattle.classes.specs.Forests.{made_in, Narrowed, Narrows}
-use Rattle.classes.proofs.Stores.{narrowed_iff}
 use Rattle.theory.specs.declared.claim.Claim.{Claim}
 use Rattle.theory.specs.Claims.{Claimed, OfMade}
-use Rattle.theory.proofs.Claiming.{at_bits, answered}
 use Rattle.theory.proofs.claim.restrict.Goals as goal
 
 pub returns-in-Alike : goal.returns-in-Alike
@@ -21,7 +17,4 @@ returns-in-Within g c =
 pub returns-in-Plain : goal.returns-in-Plain
 returns-in-Plain g c =
     let f = c.args.forest.now in
-    let n : SFits w32 c.in-Plain.n = search rules in
-    let by = HeldIn g.C.Content.holds c.in-Plain.by in
-    subst (λ (d : Claim g.row.C.Denot). OfMade (made_in f) d × Narrowed g.C.Content.holds f (λ v. Claimed g.C.Content.holds d v) c.keep.new.self) (sym c.in-Plain.is)
-    (tt, narrowed_iff g.C.Content.holds f _ _ _ (λ v a. answered c.contains.result (by c.in-Plain.n) (at_bits (λ (k : ℤ). Answers c.contains.result (by k)) c.in-Plain.n n c.contains.ensures)) c.keep.ensures)
+    subst (λ (d : Claim g.row.C.Denot). OfMade (made_in f) d × Narrowed g.C.Content.holds f (λ v. Claimed g.C.Content.holds d v) c.keep.new.self) (sym c.in-Plain.is) (tt, c.keep.ensures)
