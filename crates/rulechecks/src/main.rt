@@ -3,14 +3,15 @@
 
 use rulefile::load_and_write;
 use std::alloc::Global;
-use std::iter;
 
 /// One word of a line: a byte, or `BYTExCOUNT` for several.
 fn push_run(bytes: &mut Vec<u8>, word: &str) -> anyhow::Result<()> {
-    let (byte, count) = word.split_once("x").unwrap_or((word, "1"));
-    let byte = byte.parse::<u8>()?;
-    let count = count.parse::<u16>()?;
-    bytes.extend(iter::repeat_n(byte, usize::from(count)))?;
+    let (byte, count) = word.split_once("x").unzip();
+    let byte = byte.unwrap_or(word).parse::<u8>()?;
+    let count = count.map_or(Ok(1), |count| count.parse::<u16>())?;
+    for _ in 0..count {
+        bytes.push(byte)?;
+    }
     Ok(())
 }
 
