@@ -9,10 +9,17 @@ mod tests {
     use std::test::Fail;
     use table::partner::PartnerTable;
     use table::put::PutRefusal;
+    use table::rows::Rows;
     use table::scan::ScanTable;
     use tablelaws::changes::{Change, alike, perform};
     use tablelaws::visits::visit;
     use terms::Operand;
+
+    // What holds a front of any table asks nothing of that table.
+    #[derive(Drop)]
+    struct Held<P> {
+        front: FrontTable<P>,
+    }
 
     // A record of symbol 3 that is open by a variable, one with the key 7, one with the key 8, and one with no argument.
     fn keyed<P: PartnerTable>(table: &mut P) -> Result<(), PutRefusal> {
@@ -95,6 +102,29 @@ mod tests {
         assert_eq!(rt; table.symbol(12), Some(3));
         assert_eq!(rt; table.argument(12, 1), Some(Operand::Value(7)));
         assert_eq!(rt; table.argument(12, 2), None);
+        Ok(())
+    }
+
+    #[test]
+    fn a_front_of_any_table_is_held(rt: HostRuntime) -> Result<(), Fail> {
+        let mut held = Held {
+            front: FrontTable::new(rt.alloc(), ScanTable::new(rt.alloc())?)?,
+        };
+        keyed(&mut held.front)?;
+        assert_eq!(rt; held.front.own_count(), 4);
+        Ok(())
+    }
+
+    #[test]
+    fn rows_hold_as_many_as_they_are_made_for(rt: HostRuntime) -> Result<(), Fail> {
+        for limit in 0..3 {
+            let mut rows = Rows::new(rt.alloc(), limit)?;
+            for identifier in 1..=4 {
+                let _ = rows.put(identifier, 0, &[]);
+            }
+            assert_eq!(rt; rows.count(), limit);
+            assert_eq!(rt; rows.limit(), limit);
+        }
         Ok(())
     }
 
