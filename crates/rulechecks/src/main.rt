@@ -9,6 +9,7 @@ fn push_run(bytes: &mut Vec<u8>, word: &str) -> anyhow::Result<()> {
     let (byte, count) = word.split_once("x").unzip();
     let byte = byte.unwrap_or(word).parse::<u8>()?;
     let count = count.map_or(Ok(1), |count| count.parse::<u16>())?;
+    // One by one, since `extend` would grow the vector to twice of what it is asked for.
     for _ in 0..count {
         bytes.push(byte)?;
     }

@@ -35,6 +35,7 @@ pub fn load_and_write(heap: Global, bytes: &[u8]) -> Result<(Rules, Vec<u8>), Lo
 {
     let rules = load(heap, bytes)?;
     let mut copy = vec![in heap; 0; rules.file_len()]?;
+    // The copy has room for the whole file, so the write is not refused.
     let _ = rules.write(&mut copy);
     Ok((rules, copy))
 }
