@@ -36,7 +36,10 @@ impl<T: Copy + Default, const N: usize> InPlace<T, N> {
             return None;
         }
         let mut places = [T::default(); N];
-        places[..slice.len()].copy_from_slice(slice);
+        // Not by `copy_from_slice`, which takes half as long again.
+        for (place, item) in slice.iter().enumerate() {
+            places[place] = *item;
+        }
         Some(InPlace {
             places,
             filled: slice.len(),

@@ -141,10 +141,12 @@ impl<C: Content> Forest<C> {
         if self.failed {
             return self.made(x).is_ok();
         }
-        match (self.held(x), by) {
-            (Ok(held), Some(content)) => held.is_within(content),
-            (Ok(_), None) => false,
-            (Err(NotMade), _) => false,
+        let Some(content) = by else {
+            return false;
+        };
+        match self.held(x) {
+            Ok(held) => held.is_within(content),
+            Err(NotMade) => false,
         }
     }
 

@@ -1,6 +1,6 @@
 //! A range as what a class holds.
 
-ghost use Rattle.std.specs.Prelude.{ℤ, ◌≤ℤ◌};
+ghost use Rattle.std.specs.Prelude.{ℤ, pos, negsuc, ◌≤ℤ◌};
 ghost use Rattle.contents.specs.Contents.{Holding};
 ghost use Rattle.contents.specs.Ranges.{EndsHold};
 ghost use Rattle.std.proofs.Common.{rules, arith};
@@ -14,15 +14,19 @@ impl Ends {
     pub fn between(least: i32, greatest: i32) -> Option<Ends>
         ensures { Holding EndsHold (λ z. (least ≤ℤ z) × (z ≤ℤ greatest)) result }
     {
-        let low = least.max(LEAST_VALUE);
-        let high = greatest.min(GREATEST_VALUE);
-        if low > high {
+        Ends::ordered(least.max(LEAST_VALUE), greatest.min(GREATEST_VALUE))
+    }
+
+    /// The same, where `least` is not below the values and `greatest` not above them.
+    fn ordered(least: i32, greatest: i32) -> Option<Ends>
+        requires low { negsuc 999_999 ≤ℤ least }
+        requires high { greatest ≤ℤ pos 1_000_000 }
+        ensures { Holding EndsHold (λ z. (least ≤ℤ z) × (z ≤ℤ greatest)) result }
+    {
+        if least > greatest {
             None
         } else {
-            Some(Ends {
-                least: low,
-                greatest: high,
-            })
+            Some(Ends { least, greatest })
         }
     }
 }
@@ -54,7 +58,7 @@ impl Content for Ends {
     fn meet(self, other: Ends) -> Option<Ends> {
         let least = self.least.max(other.least);
         let greatest = self.greatest.min(other.greatest);
-        Ends::between(least, greatest)
+        Ends::ordered(least, greatest)
     }
 
     fn is_within(self, other: Ends) -> bool {
