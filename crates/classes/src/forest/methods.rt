@@ -79,9 +79,9 @@ impl<C: Content> Forest<C> {
         ensures narrows { Narrows C.Content.holds self.old ((a < made_in self.old) × (b < made_in self.old)) (λ v. v a ≡ v b) result self.new }
         ensures kept { KeepsRows self.old self.new }
     {
-        if self.failed {
-            self.made(a)?;
-            return self.made(b);
+        let known = self.made(a).and(self.made(b));
+        if self.failed || known.is_err() {
+            return known;
         }
         let one = self.root(a)?;
         let other = self.root(b)?;
@@ -120,8 +120,11 @@ impl<C: Content> Forest<C> {
     pub fn same(&self, a: u8, b: u8) -> bool
         ensures { Answers result ((a < made_in self.now) × (b < made_in self.now) × Throughout C.Content.holds self.now (λ v. v a ≡ v b)) }
     {
+        if self.made(a).is_err() || self.made(b).is_err() {
+            return false;
+        }
         if self.failed {
-            return self.made(a).is_ok() && self.made(b).is_ok();
+            return true;
         }
         match (self.root(a), self.root(b)) {
             (Ok(one), Ok(other)) if one == other => true,
